@@ -1,0 +1,2 @@
+-- The range rule for stored bytes. Other crates cite `storedByte`.
+pub mod Stored

@@ -1,0 +1,42 @@
+// From a code to the byte that is stored on the screen: paper 01, 'From code to stored byte'.
+// Where the documents differ, paper 01 decides: MouseText has no effect in normal mode, and codes 0x80 to 0xFF lose 128 in every mode.
+pub mod table;
+
+use table::STORED;
+ghost use mathlib.Core.Path.{_≡_};
+ghost use Prim.Native.Nat.{_*_};
+ghost use Rattle.charset.specs.Stored.{Agrees, rowOf, storedByte};
+
+// How printing codes look. MouseText is inverse with MouseText on.
+pub enum Mode {
+    Normal,
+    Inverse,
+    MouseText,
+}
+
+// The table, for a caller to hold while it prints: a constant that is indexed in place is copied for each byte.
+pub fn table_copy() -> [u8; 768]
+    ensures { λ r. ⌜ Agrees r ⌝ }
+{
+    STORED
+}
+
+// Where a mode's 256 entries start.
+fn row_start(mode: Mode) -> usize
+    ensures { λ r. ⌜ r ≡ 256 * rowOf mode ⌝ }
+{
+    match mode {
+        Mode::Normal => 0,
+        Mode::Inverse => 256,
+        Mode::MouseText => 512,
+    }
+}
+
+// The byte that a code is stored as.
+pub fn stored_byte(table: &[u8; 768], mode: Mode, code: u8) -> u8
+    requires { ⌜ Agrees (now table) ⌝ }
+    ensures { λ r. ⌜ r ≡ storedByte mode code ⌝ }
+{
+    let entry = row_start(mode) + code as usize;
+    table[entry]
+}

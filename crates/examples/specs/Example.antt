@@ -1,0 +1,60 @@
+-- What an example of paper 01 states: all 1,920 cells, viewport, cursor and bells. Assumes nothing.
+use Prim.Native.Nat.{ℕ, _+_, _*_, _<_}
+use mathlib.Core.Path.{_≡_}
+use mathlib.Core.Bool.{cond}
+use mathlib.Core.List.{List, [], _∷_}
+use lib.Dec.{eqb}
+use lib.ListN.{length, getD}
+use Rattle.screen.specs.declared.Rect.{Rect}
+use Rattle.screen.specs.Tabulate.{tabulate}
+use Rattle.console.specs.declared.Status.the-variants.{Done}
+use Rattle.console.specs.Calls.{Reply, freshConsole, writeCall}
+
+-- a byte on the screen
+pub record Cell : Type 0 where
+  pub column : ℕ
+  pub line : ℕ
+  pub byte : ℕ
+
+-- bytes written to a fresh console to set the scene, the bytes of the example, and what is there then: the cells that it names, the others as before it
+pub record Example : Type 0 where
+  pub scene : List ℕ
+  pub bytes : List ℕ
+  pub cells : List Cell
+  pub viewport : Rect
+  pub column : ℕ
+  pub line : ℕ
+  pub bells : ℕ
+
+-- 'in the examples a fresh console's screen is all blanks'
+unfoldable pub blankScreen : List ℕ
+blankScreen = tabulate 1920 (λ _. 0xa0)
+
+-- before the example's bytes, and after them
+abbrev pub before : Example → Reply
+before e = writeCall freshConsole blankScreen (e .scene)
+
+abbrev pub after : Example → Reply
+after e = writeCall (before e .port) (before e .screen) (e .bytes)
+
+-- the byte that cell i is named to hold, or else the one that it held
+abbrev pub named : List Cell → ℕ → ℕ → ℕ
+named [] i held = held
+named (c ∷ cs) i held = cond (eqb i (80 * c .line + c .column)) (c .byte) (named cs i held)
+
+-- what the example says of the replies to the scene and to its own bytes
+pub record Shows (e : Example) (scene shown : Reply) : Type 0 where
+  pub status : shown .status ≡ Done
+  pub size : length (shown .screen) ≡ 1920
+  pub cells : (i : ℕ) → i < 1920 → getD (shown .screen) i 0 ≡ named (e .cells) i (getD (scene .screen) i 0)
+  pub viewport : shown .port .view .viewport ≡ e .viewport
+  pub column : shown .port .view .column ≡ e .column
+  pub line : shown .port .view .line ≡ e .line
+  pub bells : shown .count ≡ e .bells
+
+abbrev pub Holds : Example → Type 0
+Holds e = Shows e (before e) (after e)
+
+abbrev pub AllHold : List Example → Type 0
+AllHold [] = Unit {0}
+AllHold (e ∷ es) = Holds e × AllHold es

@@ -1,0 +1,139 @@
+-- The test for validity is true exactly when paper 01's clauses hold, and a fresh port of a legal home is valid. Assumes nothing.
+use Prim.Native.Nat.{ℕ, _≤_, _<_}
+use mathlib.Core.Path.{_≡_, refl, ap}
+use mathlib.Core.Bool.{Bool, true, false, not, _||_}
+use mathlib.Core.Logic.{inl, inr, ⊎-elim}
+use mathlib.Core.List.{List}
+use native.Mathlib.Omega.{arith}
+use lib.Dec.{ltb, eqb}
+use lib.ListN.{getD}
+use borrow.Author.Tests.{eqb-true, eqb-false, eq-eqb, not-true}
+use Rattle.screen.specs.declared.Rect.{Rect}
+use Rattle.screen.proofs.Tests.{tested, not-both, Decides, decides-lt, decides-le, decides-eq, decides-both, decides-if, decides-unless, decides-four, decides-as}
+use Rattle.port.specs.declared.View.{View}
+use Rattle.port.specs.declared.Port.{Port}
+use Rattle.port.specs.State.{rectOf, zeroView, noParameters, defaultView, freshPort}
+use Rattle.port.specs.Valid.{legal, Legal, within, cursorInside, validView, ValidView, zeroRect, noFlags, isZeroView, validSaved, parameters, usedOrZero, unusedZero, validWait, ValidWait, valid, Valid}
+
+pub decides-legal : (r : Rect) → Decides (legal r) (Legal r)
+unfolding legal
+decides-legal r =
+    decides-as (decides-both (decides-both (decides-lt _ _) (decides-le _ _)) (decides-both (decides-lt _ _) (decides-le _ _)))
+    (λ k. record { wide = k .0 .0; right-in = k .0 .1; tall = k .1 .0; bottom-in = k .1 .1 })
+    (λ h. ((h .wide, h .right-in), (h .tall, h .bottom-in)))
+
+-- each edge of one rectangle is in the other
+Edges : Rect → Rect → Type 0
+Edges inner outer = ((outer .left ≤ inner .left) × (inner .right ≤ outer .right)) × ((outer .top ≤ inner .top) × (inner .bottom ≤ outer .bottom))
+
+decides-within : (inner outer : Rect) → Decides (within inner outer) (Edges inner outer)
+unfolding within Edges
+decides-within inner outer = decides-both (decides-both (decides-le _ _) (decides-le _ _)) (decides-both (decides-le _ _) (decides-le _ _))
+
+pub decides-view : (home : Rect) (v : View) → Decides (validView home v) (ValidView home v)
+unfolding validView cursorInside Edges
+decides-view home v =
+    decides-as
+    (decides-both (decides-both (decides-legal (v .viewport)) (decides-within (v .viewport) home))
+    (decides-both (decides-both (decides-le _ _) (decides-le _ _)) (decides-both (decides-le _ _) (decides-le _ _))))
+    (λ k. let l = k .0 .0 in
+    record {
+      legal = k .0 .0;
+      within = omega arith;
+      from-left = k .1 .0 .0;
+      to-right = k .1 .0 .1;
+      from-top = k .1 .1 .0;
+      to-bottom = k .1 .1 .1;
+    })
+    (λ h. ((h .legal, omega arith), ((h .from-left, h .to-right), (h .from-top, h .to-bottom))))
+
+-- a flag is off
+decides-off : (t : Bool) → Decides (not t) (t ≡ false)
+decides-off t = record { holds = not-true t; passes = λ e. rw e }
+
+decides-zero-view : (v : View) → Decides (isZeroView v) (v ≡ zeroView)
+unfolding isZeroView zeroRect noFlags zeroView
+decides-zero-view v =
+    decides-as
+    (decides-both
+    (decides-both (decides-both (decides-both (decides-eq _ _) (decides-eq _ _)) (decides-both (decides-eq _ _) (decides-eq _ _))) (decides-both (decides-eq _ _) (decides-eq _ _)))
+    (decides-both
+    (decides-both (decides-both (decides-both (decides-off _) (decides-off _)) (decides-both (decides-off _) (decides-off _))) (decides-off _))
+    (decides-both (decides-off _) (decides-off _))))
+    (λ k i. record {
+      viewport = rectOf (k .0 .0 .0 .0 i) (k .0 .0 .0 .1 i) (k .0 .0 .1 .0 i) (k .0 .0 .1 .1 i);
+      column = k .0 .1 .0 i;
+      line = k .0 .1 .1 i;
+      flags = record { dle = k .1 .0 .0 .0 .0 i; scroll = k .1 .0 .0 .0 .1 i; wrap = k .1 .0 .0 .1 .0 i; lf = k .1 .0 .0 .1 .1 i; advance = k .1 .0 .1 i };
+      inverse = k .1 .1 .0 i;
+      mousetext = k .1 .1 .1 i;
+    })
+    (λ e. (
+      (
+        ((ap (λ (x : View). x .viewport .left) e, ap (λ (x : View). x .viewport .top) e), (ap (λ (x : View). x .viewport .right) e, ap (λ (x : View). x .viewport .bottom) e)),
+        (ap (λ (x : View). x .column) e, ap (λ (x : View). x .line) e),
+      ),
+      (
+        (
+          ((ap (λ (x : View). x .flags .dle) e, ap (λ (x : View). x .flags .scroll) e), (ap (λ (x : View). x .flags .wrap) e, ap (λ (x : View). x .flags .lf) e)),
+          ap (λ (x : View). x .flags .advance) e,
+        ),
+        (ap (λ (x : View). x .inverse) e, ap (λ (x : View). x .mousetext) e),
+      ),
+    ))
+
+-- code 0, which stands for none, takes no parameters
+pub no-parameters : (code : ℕ) → code ≡ 0 → 0 < parameters code → ⊥
+unfolding parameters
+no-parameters code e h = let k : parameters code ≡ 0 = ap parameters e in omega arith
+
+-- a saved view is valid where there is one, and else zero
+Saved : Rect → Bool → View → Type 0
+Saved home has v = (has ≡ true → ValidView home v) × (has ≡ false → v ≡ zeroView)
+
+decides-saved : (home : Rect) (has : Bool) (v : View) → Decides (validSaved home has v) (Saved home has v)
+unfolding validSaved Saved
+decides-saved home has v = decides-if has (decides-view home v) (decides-zero-view v)
+
+decides-unused : (gathered : List ℕ) (count : ℕ) → Decides (unusedZero gathered count) ((i : ℕ) → i < 4 → count ≤ i → getD gathered i 0 ≡ 0)
+unfolding unusedZero usedOrZero
+decides-unused gathered count =
+    decides-four (λ i. ltb i count || eqb (getD gathered i 0) 0) (λ i. count ≤ i → getD gathered i 0 ≡ 0) (λ i. decides-unless i count (decides-eq _ 0))
+
+pub decides-wait : (code : ℕ) (gathered : List ℕ) (count : ℕ) → Decides (validWait code gathered count) (ValidWait code gathered count)
+unfolding validWait
+decides-wait code gathered count =
+    decides-as (decides-both (decides-if (eqb code 0) (decides-eq _ _) (decides-lt _ _)) (decides-unused gathered count))
+    (λ k. record {
+      known = ⊎-elim (λ e. inl (eqb-true code 0 e)) (λ e. inr (let h = k .0 .1 e in omega arith)) (tested (eqb code 0));
+      fewer = λ h. ⊎-elim (λ e. absurd (no-parameters code (eqb-true code 0 e) h)) (λ e. k .0 .1 e) (tested (eqb code 0));
+      none = λ e. k .0 .0 (eq-eqb code 0 e);
+      unused = k .1;
+    })
+    (λ h. ((λ e. h .none (eqb-true code 0 e), λ e. h .fewer (⊎-elim (λ z. absurd (eqb-false code 0 e z)) (λ k. k) (h .known))), h .unused))
+
+pub decides-valid : (p : Port) → Decides (valid p) (Valid p)
+unfolding valid Saved
+decides-valid p =
+    decides-as
+    (decides-both (decides-both (decides-legal (p .home)) (decides-view (p .home) (p .view)))
+    (decides-both (decides-saved (p .home) (p .hassaved) (p .saved)) (decides-wait (p .waiting) (p .gathered) (p .count))))
+    (λ k. record { home = k .0 .0; view = k .0 .1; saved = k .1 .0 .0; unsaved = k .1 .0 .1; wait = k .1 .1 })
+    (λ h. ((h .home, h .view), ((h .saved, h .unsaved), h .wait)))
+
+-- the default view of a legal home is valid, and so is the fresh port
+pub default-valid : (home : Rect) → Legal home → ValidView home (defaultView home)
+default-valid home l = record { legal = l; within = omega arith; from-left = omega arith; to-right = omega arith; from-top = omega arith; to-bottom = omega arith }
+
+pub none-waits : ValidWait 0 noParameters 0
+unfolding parameters unusedZero usedOrZero
+none-waits = record { known = inl refl; fewer = λ h. h; none = λ _. refl; unused = decides-unused noParameters 0 .holds refl }
+
+pub fresh-valid : (home : Rect) → Legal home → Valid (freshPort home)
+fresh-valid home l = record {
+  home = l;
+  view = default-valid home l;
+  saved = λ e. absurd (not-both e refl);
+  unsaved = λ _. refl;
+  wait = none-waits;
+}

@@ -1,0 +1,47 @@
+-- Paper 01, 'Blocks, rows, one byte'. Assumes nothing.
+use Prim.Native.Nat.{ℕ, zero, suc, _+_, _-_, _*_}
+use mathlib.Core.Bool.{Bool, cond, _&&_}
+use mathlib.Core.List.{List, [], _∷_, _++_}
+use lib.Dec.{eqb}
+use lib.ListN.{length, take, drop, getD}
+use Rattle.screen.specs.declared.Rect.{Rect}
+use Rattle.screen.specs.Cells.{columnOf, lineOf, inside}
+use Rattle.screen.specs.Tabulate.{tabulate}
+
+abbrev pub widthOf : Rect → ℕ
+widthOf r = r .right + 1 - r .left
+
+abbrev pub heightOf : Rect → ℕ
+heightOf r = r .bottom + 1 - r .top
+
+-- '2 + width x height'
+unfoldable pub blockLength : Rect → ℕ
+blockLength r = 2 + widthOf r * heightOf r
+
+-- 'a row of a port's viewport .. by its number, 0 at the top': that stretch of the screen
+unfoldable pub rowStart : Rect → ℕ → ℕ
+rowStart r row = 80 * (r .top + row) + r .left
+
+unfoldable pub rowCells : Rect → ℕ → List ℕ → List ℕ
+rowCells r row s = take (widthOf r) (drop (rowStart r row) s)
+
+-- the cells of count rows 'line by line', the first of them row
+unfoldable pub rowsFrom : Rect → ℕ → ℕ → List ℕ → List ℕ
+rowsFrom r row zero s = []
+rowsFrom r row (suc count) s = rowCells r row s ++ rowsFrom r (suc row) count s
+
+-- 'a returned block is a width byte, a height byte, then the viewport's cells line by line'
+unfoldable pub blockOf : Rect → List ℕ → List ℕ
+blockOf r s = widthOf r ∷ heightOf r ∷ rowsFrom r 0 (heightOf r) s
+
+-- 'length is .. exactly 2 + width x height', and 'the first two bytes are .. the viewport's width and height'
+unfoldable pub blockFits : Rect → List ℕ → Bool
+blockFits r block = eqb (length block) (blockLength r) && (eqb (getD block 0 0) (widthOf r) && eqb (getD block 1 0) (heightOf r))
+
+-- the place in a block of a cell of the viewport
+unfoldable pub blockPlace : Rect → ℕ → ℕ
+blockPlace r i = 2 + ((lineOf i - r .top) * widthOf r + (columnOf i - r .left))
+
+-- 'restore writes the cells'
+unfoldable pub restored : Rect → List ℕ → List ℕ → List ℕ
+restored r block s = tabulate 1920 (λ i. cond (inside r i) (getD block (blockPlace r i) 0) (getD s i 0))

@@ -1,0 +1,27 @@
+-- What the laws of a step say: it keeps validity and home, and each of its edits lies inside the viewport. Assumes nothing.
+use mathlib.Core.Path.{_≡_}
+use Rattle.screen.specs.declared.Rect.{Rect}
+use Rattle.screen.specs.Local.{AllWithin}
+use Rattle.port.specs.declared.View.{View}
+use Rattle.port.specs.declared.Port.{Port}
+use Rattle.port.specs.Valid.{ValidView, Valid}
+use Rattle.port.specs.Effect.{Effect}
+use Rattle.port.specs.Step.{Outcome}
+
+-- of a code on a view
+pub record KeepsView (home : Rect) (v : View) (e : Effect) : Type 0 where
+  pub view : ValidView home (e .view)
+  pub viewport : e .view .viewport ≡ v .viewport
+  pub edits : AllWithin (v .viewport) (e .edits)
+
+-- of a byte on a port, whose viewport lies inside home
+pub record KeepsPort (p : Port) (m : Outcome) : Type 0 where
+  pub valid : Valid (m .port)
+  pub home : m .port .home ≡ p .home
+  pub edits : AllWithin (p .view .viewport) (m .edits)
+
+-- of a stream: a viewport that was set on the way lies inside home too
+pub record KeepsHome (p : Port) (m : Outcome) : Type 0 where
+  pub valid : Valid (m .port)
+  pub home : m .port .home ≡ p .home
+  pub edits : AllWithin (p .home) (m .edits)

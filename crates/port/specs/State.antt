@@ -1,0 +1,52 @@
+-- Paper 01, 'Screen and port': the default and the fresh state. Assumes nothing.
+use Prim.Native.Nat.{ℕ}
+use mathlib.Core.Bool.{true, false}
+use mathlib.Core.List.{List, [], _∷_}
+use Rattle.screen.specs.declared.Rect.{Rect}
+use Rattle.port.specs.declared.View.{View}
+use Rattle.port.specs.declared.Port.{Port}
+
+abbrev pub rectOf : ℕ → ℕ → ℕ → ℕ → Rect
+rectOf left top right bottom = record { left = left; top = top; right = right; bottom = bottom }
+
+-- 'home (0,0,79,23)'
+abbrev pub wholeScreen : Rect
+wholeScreen = rectOf 0 0 79 23
+
+-- 'default state: viewport = home, cursor top left, all five flags true, normal text, MouseText off'
+abbrev pub defaultView : Rect → View
+defaultView home = record {
+  viewport = home;
+  column = home .left;
+  line = home .top;
+  flags = record { dle = true; scroll = true; wrap = true; lf = true; advance = true };
+  inverse = false;
+  mousetext = false;
+}
+
+-- every field 0 or false
+unfoldable pub zeroView : View
+zeroView = record {
+  viewport = rectOf 0 0 0 0;
+  column = 0;
+  line = 0;
+  flags = record { dle = false; scroll = false; wrap = false; lf = false; advance = false };
+  inverse = false;
+  mousetext = false;
+}
+
+-- nothing gathered
+abbrev pub noParameters : List ℕ
+noParameters = 0 ∷ 0 ∷ 0 ∷ 0 ∷ []
+
+-- 'a fresh port is in the default state, with nothing saved and nothing waiting'
+abbrev pub freshPort : Rect → Port
+freshPort home = record {
+  home = home;
+  view = defaultView home;
+  hassaved = false;
+  saved = zeroView;
+  waiting = 0;
+  gathered = noParameters;
+  count = 0;
+}

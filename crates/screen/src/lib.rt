@@ -1,0 +1,198 @@
+// The screen of paper 01, 'Screen and port': 1,920 bytes, 24 lines of 80 columns, line 0 first, column 0 first.
+// An edit clears, scrolls or shifts one rectangle of it. These are the only loops over cells in the project.
+ghost use mathlib.Core.Path.{_≡_};
+ghost use Prim.Native.Nat.{_+_, _-_, _*_, _≤_, _<_, min};
+ghost use lib.ListN.{length, getD};
+ghost use Rattle.screen.specs.Cells.{OnScreen};
+ghost use Rattle.screen.specs.Rewrite.{Rewritten};
+ghost use Rattle.screen.specs.Edit.{edited};
+
+// A rectangle of cells. All four edges are inclusive.
+pub struct Rect {
+    pub left: u8,
+    pub top: u8,
+    pub right: u8,
+    pub bottom: u8,
+}
+
+// How the cells of a rectangle move. A cell that none moves to is vacated.
+pub enum Motion {
+    // All are vacated.
+    Clear,
+    // Lines move by one.
+    Up,
+    Down,
+    // Columns move by a number.
+    Left(u8),
+    Right(u8),
+}
+
+// A change of one rectangle: its cells move, and the vacated ones become fill.
+pub struct Edit {
+    pub rect: Rect,
+    pub motion: Motion,
+    pub fill: u8,
+}
+
+// The index of a cell.
+fn cell_index(column: usize, line: usize) -> usize
+    requires { ⌜ (column ≤ 80) × (line ≤ 23) ⌝ }
+    ensures { λ r. ⌜ r ≡ 80 * line + column ⌝ }
+{
+    80 * line + column
+}
+
+fn least(a: usize, b: usize) -> usize
+    ensures { λ r. ⌜ r ≡ min a b ⌝ }
+{
+    if a < b { a } else { b }
+}
+
+// The number of columns.
+fn width(rect: Rect) -> usize
+    requires { ⌜ OnScreen rect ⌝ }
+    ensures { λ r. ⌜ r ≡ rect .right + 1 - rect .left ⌝ }
+{
+    (rect.right - rect.left) as usize + 1
+}
+
+// Each cell from start up to end becomes byte.
+fn fill_run(screen: &mut [u8], start: usize, end: usize, byte: u8)
+    requires { ⌜ (start ≤ end) × (end ≤ length (now screen)) ⌝ }
+    ensures { λ _. ⌜ Rewritten start end (λ i. byte) (now (screen .entry)) (now (screen .exit)) ⌝ }
+{
+    for i in start..end {
+        screen[i] = byte;
+    }
+}
+
+// Each cell from start up to end becomes the one gap places after it: the first cell first, so that none is read after it was stored to.
+fn pull_run(screen: &mut [u8], start: usize, end: usize, gap: usize)
+    requires { ⌜ (start ≤ end) × (end + gap ≤ length (now screen)) ⌝ }
+    ensures { λ _. ⌜ Rewritten start end (λ i. getD (now (screen .entry)) (i + gap) 0) (now (screen .entry)) (now (screen .exit)) ⌝ }
+{
+    for i in start..end {
+        screen[i] = screen[i + gap];
+    }
+}
+
+// Each cell from start up to end becomes the one gap places before it: the last cell first.
+fn push_run(screen: &mut [u8], start: usize, end: usize, gap: usize)
+    requires { ⌜ (start ≤ end) × (end ≤ length (now screen)) × (gap ≤ start) ⌝ }
+    ensures { λ _. ⌜ Rewritten start end (λ i. getD (now (screen .entry)) (i - gap) 0) (now (screen .entry)) (now (screen .exit)) ⌝ }
+{
+    let mut i = end;
+    while start < i {
+        i -= 1;
+        screen[i] = screen[i - gap];
+    }
+}
+
+// The scrolling routine: columns start up to end of line target become those of line source, cell after cell.
+fn copy_line(screen: &mut [u8], start: usize, end: usize, source: usize, target: usize)
+    requires { ⌜ (start ≤ end) × (end ≤ 80) × (source ≤ 23) × (target ≤ 23) × (length (now screen) ≡ 1920) ⌝ }
+    ensures { λ _. ⌜ Rewritten (80 * target + start) (80 * target + end) (λ i. getD (now (screen .entry)) (i + 80 * source - 80 * target) 0) (now (screen .entry)) (now (screen .exit)) ⌝ }
+{
+    for column in start..end {
+        screen[cell_index(column, target)] = screen[cell_index(column, source)];
+    }
+}
+
+// Every cell of the rectangle becomes fill.
+pub fn clear(screen: &mut [u8], rect: Rect, fill: u8)
+    requires { ⌜ OnScreen rect × (length (now screen) ≡ 1920) ⌝ }
+    ensures { λ _. ⌜ now (screen .exit) ≡ edited rect Motion.Clear fill (now (screen .entry)) ⌝ }
+{
+    let start = rect.left as usize;
+    let end = rect.right as usize + 1;
+    let below = rect.bottom as usize + 1;
+    for line in (rect.top as usize)..below {
+        fill_run(screen, cell_index(start, line), cell_index(end, line), fill);
+    }
+}
+
+// The rectangle's lines move up one, and its bottom one becomes fill.
+pub fn scroll_up(screen: &mut [u8], rect: Rect, fill: u8)
+    requires { ⌜ OnScreen rect × (length (now screen) ≡ 1920) ⌝ }
+    ensures { λ _. ⌜ now (screen .exit) ≡ edited rect Motion.Up fill (now (screen .entry)) ⌝ }
+{
+    let start = rect.left as usize;
+    let end = rect.right as usize + 1;
+    let last = rect.bottom as usize;
+    for line in (rect.top as usize)..last {
+        copy_line(screen, start, end, line + 1, line);
+    }
+    fill_run(screen, cell_index(start, last), cell_index(end, last), fill);
+}
+
+// The rectangle's lines move down one, and its top one becomes fill.
+pub fn scroll_down(screen: &mut [u8], rect: Rect, fill: u8)
+    requires { ⌜ OnScreen rect × (length (now screen) ≡ 1920) ⌝ }
+    ensures { λ _. ⌜ now (screen .exit) ≡ edited rect Motion.Down fill (now (screen .entry)) ⌝ }
+{
+    let start = rect.left as usize;
+    let end = rect.right as usize + 1;
+    let first = rect.top as usize;
+    let mut line = rect.bottom as usize;
+    while first < line {
+        copy_line(screen, start, end, line - 1, line);
+        line -= 1;
+    }
+    fill_run(
+        screen,
+        cell_index(start, first),
+        cell_index(end, first),
+        fill,
+    );
+}
+
+// The rectangle's columns move left by count, and those that none moves to become fill.
+pub fn shift_left(screen: &mut [u8], rect: Rect, count: u8, fill: u8)
+    requires { ⌜ OnScreen rect × (length (now screen) ≡ 1920) ⌝ }
+    ensures { λ _. ⌜ now (screen .exit) ≡ edited rect (Motion.Left count) fill (now (screen .entry)) ⌝ }
+{
+    let gap = least(count as usize, width(rect));
+    let end = rect.right as usize + 1;
+    let below = rect.bottom as usize + 1;
+    for line in (rect.top as usize)..below {
+        let first = cell_index(rect.left as usize, line);
+        let past = cell_index(end, line);
+        let vacated = past - gap;
+        pull_run(screen, first, vacated, gap);
+        fill_run(screen, vacated, past, fill);
+    }
+}
+
+// The rectangle's columns move right by count, and those that none moves to become fill.
+pub fn shift_right(screen: &mut [u8], rect: Rect, count: u8, fill: u8)
+    requires { ⌜ OnScreen rect × (length (now screen) ≡ 1920) ⌝ }
+    ensures { λ _. ⌜ now (screen .exit) ≡ edited rect (Motion.Right count) fill (now (screen .entry)) ⌝ }
+{
+    let gap = least(count as usize, width(rect));
+    let end = rect.right as usize + 1;
+    let below = rect.bottom as usize + 1;
+    for line in (rect.top as usize)..below {
+        let first = cell_index(rect.left as usize, line);
+        let past = cell_index(end, line);
+        let moved = first + gap;
+        push_run(screen, moved, past, gap);
+        fill_run(screen, first, moved, fill);
+    }
+}
+
+// Any edit.
+pub fn apply(screen: &mut [u8], change: Edit)
+    requires { ⌜ OnScreen (change .rect) × (length (now screen) ≡ 1920) ⌝ }
+    ensures { λ _. ⌜ now (screen .exit) ≡ edited (change .rect) (change .motion) (change .fill) (now (screen .entry)) ⌝ }
+{
+    let rect = change.rect;
+    let fill = change.fill;
+    let motion = change.motion;
+    match motion {
+        Motion::Clear => clear(screen, rect, fill),
+        Motion::Up => scroll_up(screen, rect, fill),
+        Motion::Down => scroll_down(screen, rect, fill),
+        Motion::Left(count) => shift_left(screen, rect, count, fill),
+        Motion::Right(count) => shift_right(screen, rect, count, fill),
+    }
+}

@@ -1,5 +1,5 @@
 //! A viewport's text as a block, handed out and put back, and one row of it.
-//! The program itself needs none of these calls; hosts do.
+//! The program needs the block calls for its scripts; hosts also the row.
 #![cfg_attr(not(test), allow(dead_code))]
 
 use crate::port::{cell, Port, SCREEN_SIZE};

@@ -5,56 +5,83 @@
 //!
 //! The program hands standard input to a fresh console in one write, or
 //! with --cut one byte a write, and shows the screen, cursor and bells.
+//! With --script standard input is a script of calls on a fresh wall with
+//! a blank screen, and the program gives their answers as bytes.
 
 mod block;
 mod cells;
 mod console;
 mod cursor;
 mod port;
+mod script;
 mod stored;
 #[cfg(test)]
 mod tests;
+mod wall;
 
 use console::write;
 use port::{cell, Port, BLANK, SCREEN_SIZE};
+use script::run_script;
 use std::ffi::OsString;
 use std::fs::File;
 use std::io::{self, Read, Write};
 use std::os::unix::io::AsFd;
 use std::process::exit;
 
-/// Bytes of the input past this many are not read.
+/// Bytes of the input past this many are not read; a script has no limit.
 const INPUT_LIMIT: u64 = 1_048_576;
+
+/// What the program is asked to do with its input.
+#[derive(Clone, Copy, Debug, PartialEq, Eq)]
+enum Task {
+    Whole,
+    Cut,
+    Script,
+}
 
 fn main() {
     let arguments: Vec<OsString> = std::env::args_os().skip(1).collect();
-    let cut = match cut_asked(&arguments) {
-        Some(cut) => cut,
+    let task = match task_asked(&arguments) {
+        Some(task) => task,
         None => {
-            eprintln!("console: the only argument known is --cut");
+            eprintln!("console: the only arguments known are --cut and --script, one at a time");
             exit(2);
         }
     };
-    let input = match standard_input().and_then(read_input) {
+    let read = match task {
+        Task::Whole | Task::Cut => standard_input().and_then(read_input),
+        Task::Script => standard_input().and_then(read_script),
+    };
+    let input = match read {
         Ok(input) => input,
         Err(error) => {
             eprintln!("console: cannot read standard input: {}", error);
             exit(1);
         }
     };
-    let report = run(&input, cut);
-    if let Err(error) = io::stdout().write_all(report.as_bytes()) {
+    let output = match task {
+        Task::Whole => run(&input, false).into_bytes(),
+        Task::Cut => run(&input, true).into_bytes(),
+        Task::Script => run_script(&input, &mut [BLANK; SCREEN_SIZE]),
+    };
+    let mut standard_output = io::stdout();
+    // Answers need not end in a line feed, so what is left is flushed.
+    let written = standard_output.write_all(&output).and_then(|_| standard_output.flush());
+    if let Err(error) = written {
         eprintln!("console: cannot write standard output: {}", error);
         exit(1);
     }
 }
 
-/// No argument: one write. --cut alone: one byte a write. Else none.
-fn cut_asked(arguments: &[OsString]) -> Option<bool> {
+/// No argument: one write. --cut alone: one byte a write. --script alone:
+/// a script. Else none.
+fn task_asked(arguments: &[OsString]) -> Option<Task> {
     if arguments.is_empty() {
-        Some(false)
+        Some(Task::Whole)
     } else if arguments.len() == 1 && arguments[0] == "--cut" {
-        Some(true)
+        Some(Task::Cut)
+    } else if arguments.len() == 1 && arguments[0] == "--script" {
+        Some(Task::Script)
     } else {
         None
     }
@@ -69,6 +96,13 @@ fn read_input(source: impl Read) -> io::Result<Vec<u8>> {
     let mut input = Vec::new();
     source.take(INPUT_LIMIT).read_to_end(&mut input)?;
     Ok(input)
+}
+
+/// A script is read to its end.
+fn read_script(mut source: impl Read) -> io::Result<Vec<u8>> {
+    let mut script = Vec::new();
+    source.read_to_end(&mut script)?;
+    Ok(script)
 }
 
 /// Runs the input on a fresh console with a blank screen.

@@ -1,5 +1,6 @@
 -- Paper 01, 'What comes back' and 'Blocks, rows, one byte': the plain calls. Assumes nothing.
 use Prim.Native.Nat.{ℕ}
+use mathlib.Core.Path.{_≡_}
 use mathlib.Core.Bool.{cond, _&&_}
 use mathlib.Core.List.{List, [], _++_}
 use lib.Dec.{ltb, eqb}
@@ -10,7 +11,10 @@ use Rattle.port.specs.State.{wholeScreen, freshPort}
 use Rattle.port.specs.Valid.{valid}
 use Rattle.port.specs.Step.{Outcome}
 use Rattle.port.specs.Stream.{stream}
-use Rattle.port.specs.Block.{heightOf, blockLength, rowCells, blockOf, blockFits, restored}
+use Rattle.block.specs.Block.{heightOf, blockLength, rowCells, blockOf, blockFits, restored}
+use Rattle.console.specs.declared.Answer.{Answer}
+use Rattle.console.specs.declared.Judged.{Judged}
+use Rattle.console.specs.declared.Judged.the-variants.{Accepted, Refused}
 use Rattle.console.specs.declared.Status.{Status}
 use Rattle.console.specs.declared.Status.the-variants.{Done, ScreenLength, InvalidPort, BlockTooShort, BlockMismatch}
 
@@ -78,3 +82,18 @@ restoreCall = judged blockRestored
 unfoldable pub rowCall : Port → List ℕ → ℕ → List ℕ
 rowCall p s row =
     cond ((eqb (length s) 1920 && valid p) && ltb row (heightOf (p .view .viewport))) (rowCells (p .view .viewport) row s) []
+
+-- the same refusals as the code finds them, before a call starts
+unfoldable pub judgement : Port → ℕ → Judged
+judgement p size = cond (eqb size 1920) (cond (valid p) Accepted (Refused InvalidPort)) (Refused ScreenLength)
+
+abbrev pub answerOf : Status → Port → ℕ → Answer
+answerOf status port count = record { status = status; port = port; count = count }
+
+-- what a call promises: its answer, and the bytes of the lent screen and block as it returns
+pub record Replies (reply : Reply) (answer : Answer) (screen block : List ℕ) : Type 0 where
+  pub status-is : answer .status ≡ reply .status
+  pub port-is : answer .port ≡ reply .port
+  pub count-is : answer .count ≡ reply .count
+  pub cells : screen ≡ reply .screen
+  pub bytes : block ≡ reply .block

@@ -1,6 +1,20 @@
-// The plain console of paper 01: what a host calls. No function here has a `requires`: every input, refused or not, has its equation.
+// The plain console of paper 01: what a host calls. No public function has a `requires`: every input, refused or not, has its equation.
+pub mod carry;
+
+use block::block_fits;
+use block::block_length;
+use block::copy_in;
+use block::copy_out;
+use block::height;
+use block::row_start;
+use block::width;
+use carry::carry_stream;
+use port::Port;
+use port::state::fresh_port;
+use port::valid::valid_port;
+use screen::Rect;
 ghost use mathlib.Core.Path.{_≡_};
-ghost use Rattle.console.specs.Calls.{numberOf};
+ghost use Rattle.console.specs.Calls.{numberOf, freshConsole, writeCall, returnCall, restoreCall, rowCall, answerOf, judgement, Replies};
 
 // Paper 01, 'What comes back', for the plain calls. Other crates have statuses of their own for the other numbers.
 pub enum Status {
@@ -9,6 +23,13 @@ pub enum Status {
     InvalidPort,
     BlockTooShort,
     BlockMismatch,
+}
+
+// What a call hands back: the status, the port, and the count of bells or of bytes.
+pub struct Answer {
+    pub status: Status,
+    pub port: Port,
+    pub count: usize,
 }
 
 // The paper's number.
@@ -21,5 +42,127 @@ pub fn status_number(status: Status) -> u8
         Status::InvalidPort => 2,
         Status::BlockTooShort => 9,
         Status::BlockMismatch => 10,
+    }
+}
+
+// A fresh port of the whole screen.
+pub fn fresh_console() -> Port
+    ensures { λ r. ⌜ r ≡ freshConsole ⌝ }
+{
+    fresh_port(Rect {
+        left: 0,
+        top: 0,
+        right: 79,
+        bottom: 23,
+    })
+}
+
+// Whether a call is refused before it starts.
+enum Judged {
+    Accepted,
+    Refused(Status),
+}
+
+// 1 by the screen's length, then 2 by the port.
+fn judge(p: Port, length: usize) -> Judged
+    ensures { λ r. ⌜ r ≡ judgement p length ⌝ }
+{
+    if length != 1920 {
+        return Judged::Refused(Status::ScreenLength);
+    }
+    if valid_port(p) {
+        return Judged::Accepted;
+    }
+    Judged::Refused(Status::InvalidPort)
+}
+
+// A refusal hands back the port as it came, and a count of 0.
+fn refused(status: Status, port: Port) -> Answer
+    ensures { λ r. ⌜ r ≡ answerOf status port 0 ⌝ }
+{
+    Answer {
+        status,
+        port,
+        count: 0,
+    }
+}
+
+fn done(port: Port, count: usize) -> Answer
+    ensures { λ r. ⌜ r ≡ answerOf Status.Done port count ⌝ }
+{
+    Answer {
+        status: Status::Done,
+        port,
+        count,
+    }
+}
+
+// Obeys a stream: each byte does what paper 01's tables say. The count is of the bells that it rang.
+pub fn write(p: Port, screen: &mut [u8], bytes: &[u8]) -> Answer
+    ensures { λ r. ⌜ Replies (writeCall p (now (screen .entry)) (now (bytes .entry))) r (now (screen .exit)) (now (bytes .entry)) ⌝ }
+{
+    let judged = judge(p, screen.len());
+    match judged {
+        Judged::Refused(status) => refused(status, p),
+        Judged::Accepted => {
+            let written = carry_stream(screen, p, bytes);
+            done(written.port, written.bells)
+        }
+    }
+}
+
+// Hands the viewport's text out: the block fills the front of the lent one. The count is of its bytes.
+pub fn return_block(p: Port, screen: &[u8], block: &mut [u8]) -> Answer
+    ensures { λ r. ⌜ Replies (returnCall p (now (screen .entry)) (now (block .entry))) r (now (screen .entry)) (now (block .exit)) ⌝ }
+{
+    let judged = judge(p, screen.len());
+    match judged {
+        Judged::Refused(status) => refused(status, p),
+        Judged::Accepted => {
+            let rect = p.view.viewport;
+            let size = block_length(rect);
+            if block.len() < size {
+                return refused(Status::BlockTooShort, p);
+            }
+            copy_out(screen, rect, block);
+            done(p, size)
+        }
+    }
+}
+
+// Puts a block's text into the viewport. The cursor stays.
+pub fn restore_block(p: Port, screen: &mut [u8], block: &[u8]) -> Answer
+    ensures { λ r. ⌜ Replies (restoreCall p (now (screen .entry)) (now (block .entry))) r (now (screen .exit)) (now (block .entry)) ⌝ }
+{
+    let judged = judge(p, screen.len());
+    match judged {
+        Judged::Refused(status) => refused(status, p),
+        Judged::Accepted => {
+            let rect = p.view.viewport;
+            if block_fits(rect, block) {
+                copy_in(screen, rect, block);
+                return done(p, 0);
+            }
+            refused(Status::BlockMismatch, p)
+        }
+    }
+}
+
+// A row of the viewport, 0 at the top: that stretch of the lent screen itself, or an empty one.
+pub fn row_view(p: Port, screen: &[u8], row: usize) -> &[u8]
+    ensures { λ r. ⌜ now r ≡ rowCall p (now (screen .entry)) row ⌝ }
+{
+    let judged = judge(p, screen.len());
+    match judged {
+        Judged::Refused(_) => &screen[0..0],
+        Judged::Accepted => {
+            let rect = p.view.viewport;
+            if row < height(rect) as usize {
+                let start = row_start(rect, row);
+                let end = start + width(rect) as usize;
+                return &screen[start..end];
+            }
+            &screen[0..0]
+        }
     }
 }

@@ -14,7 +14,7 @@ use Rattle.screen.proofs.Tests.{not-both, by-test}
 use Rattle.port.specs.declared.View.{View}
 use Rattle.port.specs.declared.Port.{Port}
 use Rattle.port.specs.State.{noParameters}
-use Rattle.port.specs.Valid.{parameters, usedOrZero, unusedZero, validWait, ValidView, ValidWait, Valid}
+use Rattle.port.specs.Valid.{parameters, usedOrZero, unusedZero, countFits, validWait, ValidView, ValidWait, Valid}
 use Rattle.port.specs.Effect.{Effect}
 use Rattle.port.specs.Step.{withView, becomesPort, onView, pushAndReset, pop, waitFor, obey, perform, parameter, step}
 use Rattle.port.specs.Keeps.{KeepsView, KeepsPort}
@@ -62,7 +62,7 @@ keeps-performed p h e k =
     record { valid = m .valid; home = refl; edits = m .edits }
 
 keeps-obey : (p : Port) → Valid p → (code : ℕ) → KeepsPort p (obey p code)
-unfolding obey parameters validWait unusedZero usedOrZero
+unfolding obey parameters validWait countFits unusedZero usedOrZero
 keeps-obey p h code =
     by-test (KeepsPort p) (eqb code 0x00) (λ _. keeps-idle p h) λ _.
     by-test (KeepsPort p) (eqb code 0x01) (λ _. keeps-push p h) λ _.
@@ -98,17 +98,17 @@ keeps-obey p h code =
     by-test (KeepsPort p) (eqb code 0x1f) (λ _. keeps-view p h _ (keeps-up (p .home) (p .view) (h .view))) λ _.
     keeps-view p h _ (keeps-print (p .home) (p .view) (h .view) code)
 
-keeps-perform : (p : Port) → Valid p → (b : ℕ) → KeepsPort p (perform p b)
+keeps-perform : (p : Port) → Valid p → (code b : ℕ) → KeepsPort p (perform p code b)
 unfolding perform
-keeps-perform p h b =
+keeps-perform p h code b =
     let first : ℕ = getD (p .gathered) 0 0 in
-    by-test (KeepsPort p) (eqb (p .waiting) 0x02)
+    by-test (KeepsPort p) (eqb code 0x02)
     (λ _. record { valid = viewed (waitFor p 0) (waits p h 0 none-waits) _ (size-valid (p .home) (p .view) (h .view) (h .home) first (getD (p .gathered) 1 0) (getD (p .gathered) 2 0) b); home = refl; edits = tt }) λ _.
-    by-test (KeepsPort p) (eqb (p .waiting) 0x05) (λ _. keeps-performed p h _ (keeps-horizontal-scroll (p .home) (p .view) (h .view) b)) λ _.
-    by-test (KeepsPort p) (eqb (p .waiting) 0x06) (λ _. keeps-performed p h _ (keeps-vertical (p .home) (p .view) (h .view) b)) λ _.
-    by-test (KeepsPort p) (eqb (p .waiting) 0x10) (λ _. keeps-performed p h _ (keeps-dle (p .home) (p .view) (h .view) b)) λ _.
-    by-test (KeepsPort p) (eqb (p .waiting) 0x14) (λ _. keeps-performed p h _ (keeps-horizontal (p .home) (p .view) (h .view) b)) λ _.
-    by-test (KeepsPort p) (eqb (p .waiting) 0x15) (λ _. keeps-performed p h _ (keeps-flags (p .home) (p .view) (h .view) _)) λ _.
+    by-test (KeepsPort p) (eqb code 0x05) (λ _. keeps-performed p h _ (keeps-horizontal-scroll (p .home) (p .view) (h .view) b)) λ _.
+    by-test (KeepsPort p) (eqb code 0x06) (λ _. keeps-performed p h _ (keeps-vertical (p .home) (p .view) (h .view) b)) λ _.
+    by-test (KeepsPort p) (eqb code 0x10) (λ _. keeps-performed p h _ (keeps-dle (p .home) (p .view) (h .view) b)) λ _.
+    by-test (KeepsPort p) (eqb code 0x14) (λ _. keeps-performed p h _ (keeps-horizontal (p .home) (p .view) (h .view) b)) λ _.
+    by-test (KeepsPort p) (eqb code 0x15) (λ _. keeps-performed p h _ (keeps-flags (p .home) (p .view) (h .view) _)) λ _.
     keeps-performed p h _ (keeps-goto (p .home) (p .view) (h .view) first b)
 
 -- one parameter more is gathered, and more are wanted
@@ -129,7 +129,7 @@ keeps-parameter p h b some =
       home = refl;
       edits = tt;
     })
-    (λ _. keeps-perform p h b)
+    (λ _. keeps-perform p h (p .waiting) b)
 
 pub keeps-step : (p : Port) → Valid p → (b : ℕ) → KeepsPort p (step p b)
 unfolding step

@@ -7,13 +7,13 @@ use mathlib.Core.List.{List}
 use native.Mathlib.Omega.{arith}
 use lib.Dec.{ltb, eqb}
 use lib.ListN.{getD}
-use borrow.Author.Tests.{eqb-true, eqb-false, eq-eqb, not-true}
+use borrow.Author.Tests.{eqb-true, eqb-false, eq-eqb, ne-eqb, not-true}
 use Rattle.screen.specs.declared.Rect.{Rect}
 use Rattle.screen.proofs.Tests.{tested, not-both, Decides, decides-lt, decides-le, decides-eq, decides-both, decides-if, decides-unless, decides-four, decides-as}
 use Rattle.port.specs.declared.View.{View}
 use Rattle.port.specs.declared.Port.{Port}
 use Rattle.port.specs.State.{rectOf, zeroView, noParameters, defaultView, freshPort}
-use Rattle.port.specs.Valid.{legal, Legal, within, cursorInside, validView, ValidView, zeroRect, noFlags, isZeroView, validSaved, parameters, usedOrZero, unusedZero, validWait, ValidWait, valid, Valid}
+use Rattle.port.specs.Valid.{legal, Legal, within, cursorInside, validView, ValidView, zeroRect, noFlags, isZeroView, validSaved, parameters, usedOrZero, unusedZero, countFits, validWait, ValidWait, valid, Valid}
 
 pub decides-legal : (r : Rect) → Decides (legal r) (Legal r)
 unfolding legal
@@ -101,7 +101,7 @@ decides-unused gathered count =
     decides-four (λ i. ltb i count || eqb (getD gathered i 0) 0) (λ i. count ≤ i → getD gathered i 0 ≡ 0) (λ i. decides-unless i count (decides-eq _ 0))
 
 pub decides-wait : (code : ℕ) (gathered : List ℕ) (count : ℕ) → Decides (validWait code gathered count) (ValidWait code gathered count)
-unfolding validWait
+unfolding validWait countFits
 decides-wait code gathered count =
     decides-as (decides-both (decides-if (eqb code 0) (decides-eq _ _) (decides-lt _ _)) (decides-unused gathered count))
     (λ k. record {
@@ -137,3 +137,12 @@ fresh-valid home l = record {
   unsaved = λ _. refl;
   wait = none-waits;
 }
+
+-- how many parameters a code takes, by its number
+pub takes : {n : ℕ} (code k : ℕ) → code ≡ k → n ≡ parameters k → n ≡ parameters code
+takes code k e h = rw e h
+
+-- a waiting code, by how many parameters it takes
+pub fits-count : (code count n : ℕ) → n ≡ parameters code → (code ≡ 0 → ⊥) → ltb count n ≡ countFits code count
+unfolding countFits
+fits-count code count n e k = simp (ne-eqb code 0 k) (ap (ltb count) e)

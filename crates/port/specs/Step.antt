@@ -102,24 +102,24 @@ obey p code =
     (cond (eqb code 0x1f) (onView p (moveCursorUp (p .view)))
     (onView p (print (p .view) code)))))))))))))))))))))))))))))))))
 
--- the waiting command with its last parameter b; the seventh and last code that takes parameters is $1E. (What a `let` binds is computed only where it is chosen.)
-unfoldable pub perform : Port → ℕ → Outcome
-perform p b =
+-- a command with its last parameter b; the seventh and last code that takes parameters is $1E. (What a `let` binds is computed only where it is chosen.)
+unfoldable pub perform : Port → ℕ → ℕ → Outcome
+perform p code b =
     let first : ℕ = getD (p .gathered) 0 0 in
     let expanded : Outcome = onView (waitFor p 0) (dleSpaceExpansion (p .view) b) in
-    cond (eqb (p .waiting) 0x02)
+    cond (eqb code 0x02)
     (onView (waitFor p 0) (becomes (setPortSize (p .home) (p .view) first (getD (p .gathered) 1 0) (getD (p .gathered) 2 0) b)))
-    (cond (eqb (p .waiting) 0x05) (onView (waitFor p 0) (horizontalScroll (p .view) b))
-    (cond (eqb (p .waiting) 0x06) (onView (waitFor p 0) (becomes (setVertical (p .view) b)))
-    (cond (eqb (p .waiting) 0x10) expanded
-    (cond (eqb (p .waiting) 0x14) (onView (waitFor p 0) (becomes (setHorizontal (p .view) b)))
-    (cond (eqb (p .waiting) 0x15) (onView (waitFor p 0) (becomes (setCursorMovement (p .view) b)))
+    (cond (eqb code 0x05) (onView (waitFor p 0) (horizontalScroll (p .view) b))
+    (cond (eqb code 0x06) (onView (waitFor p 0) (becomes (setVertical (p .view) b)))
+    (cond (eqb code 0x10) expanded
+    (cond (eqb code 0x14) (onView (waitFor p 0) (becomes (setHorizontal (p .view) b)))
+    (cond (eqb code 0x15) (onView (waitFor p 0) (becomes (setCursorMovement (p .view) b)))
     (onView (waitFor p 0) (becomes (gotoXY (p .view) first b))))))))
 
 -- a byte that is a parameter of the waiting command: 'parameters may be any bytes, control codes included'
 unfoldable pub parameter : Port → ℕ → Outcome
 parameter p b =
-    let performed : Outcome = perform p b in
+    let performed : Outcome = perform p (p .waiting) b in
     cond (ltb (p .count + 1) (parameters (p .waiting))) (becomesPort (gatherOne p b)) performed
 
 -- one byte

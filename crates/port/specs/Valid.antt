@@ -85,8 +85,11 @@ unusedZero gathered count =
     && (usedOrZero gathered count 2 && usedOrZero gathered count 3)
 
 -- 'the waiting code is none or one of the seven codes that take parameters, if one waits fewer are gathered than it needs'
+unfoldable pub countFits : ℕ → ℕ → Bool
+countFits code count = cond (eqb code 0) (eqb count 0) (ltb count (parameters code))
+
 unfoldable pub validWait : ℕ → List ℕ → ℕ → Bool
-validWait code gathered count = cond (eqb code 0) (eqb count 0) (ltb count (parameters code)) && unusedZero gathered count
+validWait code gathered count = countFits code count && unusedZero gathered count
 
 pub record ValidWait (code : ℕ) (gathered : List ℕ) (count : ℕ) : Type 0 where
   pub known : (code ≡ 0) ⊎ (0 < parameters code)

@@ -1,5 +1,8 @@
-// The port of paper 01, 'Screen and port': document 000's text port.
+// The port of paper 01, 'Screen and port': document 000's text port. Its state, and when it is valid.
 // Document 002 drops a command whose parameters have not all come when a write ends; here it waits (paper 01 decides).
+pub mod state;
+pub mod valid;
+
 use screen::Rect;
 
 // What $15 sets: document 000's cursor movement flags.

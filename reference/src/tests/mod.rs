@@ -7,9 +7,14 @@ mod modes;
 mod moves;
 mod program;
 mod refusals;
+mod scripts;
 mod soundness;
 mod stored;
 mod viewports;
+mod wall_panes;
+mod wall_refusals;
+mod wall_soundness;
+mod walls;
 
 use crate::console::{write, write_byte};
 use crate::port::{cell, Cursor, Port, Rectangle, BLANK, SCREEN_SIZE};

@@ -1,6 +1,6 @@
 //! The program: its arguments, its reading and its 25 lines.
 
-use crate::{cut_asked, read_input, run};
+use crate::{read_input, read_script, run, task_asked, Task};
 use std::ffi::OsString;
 use std::io::{self, Read};
 
@@ -58,10 +58,14 @@ fn waiting_command_at_the_end_of_the_input() {
 
 #[test]
 fn known_arguments() {
-    assert_eq!(cut_asked(&arguments(&[])), Some(false));
-    assert_eq!(cut_asked(&arguments(&["--cut"])), Some(true));
+    assert_eq!(task_asked(&arguments(&[])), Some(Task::Whole));
+    assert_eq!(task_asked(&arguments(&["--cut"])), Some(Task::Cut));
+    assert_eq!(task_asked(&arguments(&["--script"])), Some(Task::Script));
     for words in [&["-cut"][..], &["--CUT"], &[""], &["--cut", "--cut"], &["--cut", "x"]] {
-        assert_eq!(cut_asked(&arguments(words)), None);
+        assert_eq!(task_asked(&arguments(words)), None);
+    }
+    for words in [&["-script"][..], &["--scripts"], &["--script", ""], &["--script", "--cut"]] {
+        assert_eq!(task_asked(&arguments(words)), None);
     }
 }
 
@@ -76,6 +80,14 @@ fn input_is_read_up_to_the_limit() {
 }
 
 #[test]
+fn script_is_read_to_its_end() {
+    for size in [0, 1, 1_048_577, 3_000_000] {
+        assert_eq!(read_script(io::repeat(0x41).take(size)).unwrap().len(), size as usize);
+    }
+}
+
+#[test]
 fn read_error_is_passed_on() {
     assert!(read_input(Broken(0)).is_err());
+    assert!(read_script(Broken(0)).is_err());
 }

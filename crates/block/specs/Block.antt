@@ -1,4 +1,4 @@
--- Paper 01, 'Blocks, rows, one byte'. Assumes nothing.
+-- Paper 01, 'Blocks, rows, one byte': a block of the cells of a rectangle, and a row of it. Assumes nothing.
 use Prim.Native.Nat.{ℕ, zero, suc, _+_, _-_, _*_}
 use mathlib.Core.Bool.{Bool, cond, _&&_}
 use mathlib.Core.List.{List, [], _∷_, _++_}

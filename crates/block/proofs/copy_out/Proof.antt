@@ -1,0 +1,96 @@
+-- `block::copy_out` meets its contract. The invariant: after its first two bytes the block holds the cells of the rows before row, and
+-- nothing else is changed. A row's place and its width keep it in the block. Assumes nothing.
+use Prim.Native.Nat.{_-_, _≤_}
+use mathlib.Core.Path.{refl, _∙_}
+use native.Mathlib.Omega.{arith}
+use borrow.Author.Needs.{needs}
+use lib.ListN.{length-set}
+use Rattle.screen.proofs.Rewrites.{none, ends}
+use Rattle.block.specs.Block.{blockLength}
+use Rattle.block.proofs.Rows.{row-fits, row-in-block}
+use Rattle.block.proofs.Copies.{RowsOut, row-out, all-out}
+use Rattle.block.proofs.copy_out.Statement.{statement}
+use Rattle.block.proofs.copy_out.Tie as tie
+
+abbrev Inv-loop : tie.InvT-loop
+Inv-loop screen rect block₀ columns lines row₀ row-end block row = (row ≤ row-end) × RowsOut rect screen row block₀ block
+
+abbrev μ-loop : tie.MeasureT-loop
+μ-loop screen rect block₀ columns lines row₀ row-end block row = row-end - row
+
+width-requires : tie.Need-width-requires Inv-loop μ-loop
+width-requires c κs = search needs
+
+height-requires : tie.Need-height-requires Inv-loop μ-loop
+height-requires c κs = search needs
+
+slice-write-block : tie.Need-slice-write-block Inv-loop μ-loop
+unfolding blockLength
+slice-write-block c = omega arith
+
+slice-write-block-2 : tie.Need-slice-write-block-2 Inv-loop μ-loop
+unfolding blockLength
+slice-write-block-2 c = simp length-set (omega arith)
+
+cast-row-end : tie.Need-cast-row-end Inv-loop μ-loop
+cast-row-end c = omega arith
+
+loop-holds : tie.Need-loop-holds Inv-loop μ-loop
+loop-holds c = (omega arith, ends none refl (omega arith))
+
+row-start-requires : tie.Need-row-start-requires Inv-loop μ-loop
+row-start-requires c κs = search needs
+
+row-place-requires : tie.Need-row-place-requires Inv-loop μ-loop
+row-place-requires c κs = search needs
+
+cast-copy-run : tie.Need-cast-copy-run Inv-loop μ-loop
+cast-copy-run c = omega arith
+
+copy-run-requires : tie.Need-copy-run-requires Inv-loop μ-loop
+copy-run-requires c κs =
+    let rect = c .before .before .before .before .before .before .before .before .before .args .rect in
+    let loop = c .before .before .before .before .loop in
+    omega (arith, row-fits rect (loop .row) (search needs) (omega arith), row-in-block rect (loop .row) (omega arith), simp length-set at (loop .inv .1 .len))
+
+add-row : tie.Need-add-row Inv-loop μ-loop
+add-row c = omega arith
+
+loop-less : tie.Need-loop-less Inv-loop μ-loop
+loop-less c = omega arith
+
+loop-again : tie.Need-loop-again Inv-loop μ-loop
+loop-again c =
+    let a = c .before .before .before .before .before .before .before .before .before .before .before .before .args in
+    let loop = c .before .before .before .before .before .before .before .loop in (
+      omega arith,
+      row-out (a .rect) (search needs) (loop .row) (omega arith) (omega arith) (omega arith) (omega arith) (a .screen .now) (omega arith) (c .before .before .copy-run .ensures) (loop .inv .1),
+    )
+
+same-length : tie.Need-same-length Inv-loop μ-loop
+same-length c = c .before .loop .inv .1 .len ∙ simp length-set
+
+returns : tie.Need-returns Inv-loop μ-loop
+returns c = all-out _ _ _ (search needs) (omega arith) (omega arith) (omega arith) (omega arith) (omega arith) (c .before .loop .inv .1)
+
+pub copy-out-spec : {M : Type 1} → statement M
+copy-out-spec =
+    tie.close
+    (tie.spec
+    Inv-loop
+    μ-loop
+    width-requires
+    height-requires
+    slice-write-block
+    slice-write-block-2
+    cast-row-end
+    loop-holds
+    row-start-requires
+    row-place-requires
+    cast-copy-run
+    copy-run-requires
+    add-row
+    loop-less
+    loop-again
+    same-length
+    returns)

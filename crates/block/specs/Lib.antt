@@ -1,0 +1,2 @@
+-- Blocks and rows of a rectangle.
+pub mod Block

@@ -1,0 +1,48 @@
+-- Edits that are carried out one after another. Assumes nothing.
+use Prim.Native.Nat.{ℕ, _≤_}
+use mathlib.Core.Path.{_≡_, subst}
+use mathlib.Core.List.{List, [], _∷_, _++_}
+use native.Mathlib.Omega.{arith}
+use lib.ListN.{length}
+use Rattle.screen.specs.declared.Rect.{Rect}
+use Rattle.screen.specs.declared.Edit.{Edit}
+use Rattle.screen.specs.Cells.{OnScreen}
+use Rattle.screen.specs.Edit.{edited, draw}
+use Rattle.screen.specs.Local.{AllWithin}
+use Rattle.screen.proofs.Local.{length-edited}
+use Rattle.view.specs.declared.Change.{Change}
+use Rattle.view.specs.declared.Change.the-variants.{Nothing, Draw}
+use Rattle.view.specs.Plan.{changeList}
+use Rattle.console.specs.Carry.{AllOnScreen}
+
+-- edits inside a rectangle on the screen are on the screen
+pub on-screen : (r : Rect) → r .right ≤ 79 → r .bottom ≤ 23 → (es : List Edit) → AllWithin r es → AllOnScreen es
+on-screen r right bottom [] all = tt
+on-screen r right bottom (e ∷ es) all = let w = all .0 in (omega arith, on-screen r right bottom es (all .1))
+
+pub front-on-screen : (a b : List Edit) → AllOnScreen (a ++ b) → AllOnScreen a
+front-on-screen [] b all = tt
+front-on-screen (e ∷ a) b all = (all .0, front-on-screen a b (all .1))
+
+pub back-on-screen : (a b : List Edit) → AllOnScreen (a ++ b) → AllOnScreen b
+back-on-screen [] b all = all
+back-on-screen (e ∷ a) b all = back-on-screen a b (all .1)
+
+-- one edit, or none
+pub drawn-edit : (change : Change) (e : Edit) → change ≡ Draw e → AllOnScreen (changeList change) → OnScreen (e .rect)
+drawn-edit change e k all = subst (λ (x : Change). AllOnScreen (changeList x)) k all .0
+
+pub draws-nothing : (change : Change) (s : List ℕ) → change ≡ Nothing → s ≡ draw (changeList change) s
+unfolding draw
+draws-nothing change s k = rw k
+
+pub draws-one : (change : Change) (e : Edit) (s t : List ℕ) → change ≡ Draw e → t ≡ edited (e .rect) (e .motion) (e .fill) s → t ≡ draw (changeList change) s
+unfolding draw
+draws-one change e s t k h = rw k h
+
+pub length-draw : (es : List Edit) (s : List ℕ) → length s ≡ 1920 → length (draw es s) ≡ 1920
+unfolding draw
+length-draw [] s len = len
+length-draw (e ∷ es) s len = length-draw es _ (length-edited (e .rect) (e .motion) (e .fill) s)
+
+pub ruleset drawings = (drawn-edit, draws-nothing, draws-one)

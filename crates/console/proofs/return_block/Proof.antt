@@ -1,0 +1,69 @@
+-- `console::return_block` meets its contract: refused before it starts, for a short block, or `copy_out` fills the front of the block. Assumes nothing.
+use native.Mathlib.Omega.{arith}
+use borrow.Author.Needs.{needs}
+use Rattle.console.proofs.Replying.{fit, block-size, replies-refused, replies-returned, replies-short}
+use Rattle.console.proofs.Carrying.{viewport-on-screen}
+use Rattle.console.specs.Calls.{blockReturned}
+use Rattle.console.proofs.return_block.Statement.{statement}
+use Rattle.console.proofs.return_block.Tie as tie
+
+judge-requires : tie.Need-judge-requires
+judge-requires c κs = search needs
+
+enum-known-judged : tie.Need-enum-known-judged
+enum-known-judged c = search needs
+
+refused-requires : tie.Need-refused-requires
+refused-requires c κs = search needs
+
+enum-told : tie.Need-enum-told
+enum-told c = search needs
+
+block-length-requires : tie.Need-block-length-requires
+block-length-requires c κs =
+    let fits = fit (c .before .before .before .before .before .before .args .p) (c .before .before .before .before .before .before .args .screen .now) (c .before .before .before .judge .result) (c .before .before .before .judge .ensures) (search needs) in
+    viewport-on-screen _ (fits .port)
+
+refused-requires-2 : tie.Need-refused-requires-2
+refused-requires-2 c κs = search needs
+
+returns : tie.Need-returns
+returns c = replies-short (c .before .before .before .before .before .before .before .before .before .args .p) _ (c .before .before .before .before .before .before .judge .result) (c .before .before .before .before .before .before .judge .ensures) _ _ _ (search needs) (c .before .before .block-length .ensures) (c .before .if1 .taken) (c .refused2 .ensures)
+
+copy-out-requires : tie.Need-copy-out-requires
+copy-out-requires c κs =
+    let fits = fit (c .before .before .before .before .before .before .before .before .before .args .p) (c .before .before .before .before .before .before .before .before .before .args .screen .now) (c .before .before .before .before .before .before .judge .result) (c .before .before .before .before .before .before .judge .ensures) (search needs) in
+    let room = c .before .if1 .left in
+    let size = c .before .before .block-length .ensures in
+    (viewport-on-screen _ (fits .port), fits .size, omega arith)
+
+done-requires : tie.Need-done-requires
+done-requires c κs = search needs
+
+returns-2 : tie.Need-returns-2
+returns-2 c = replies-refused (c .before .before .before .before .before .before .before .args .p) _ (c .before .before .before .before .judge .result) (c .before .before .before .before .judge .ensures) blockReturned _ _ _ (search needs) (c .refused .ensures)
+
+same-length : tie.Need-same-length
+same-length c =
+    let fits = fit (c .before .before .before .before .before .before .before .before .before .before .before .before .before .args .p) (c .before .before .before .before .before .before .before .before .before .before .before .before .before .args .screen .now) (c .before .before .before .before .before .before .before .before .before .before .judge .result) (c .before .before .before .before .before .before .before .before .before .before .judge .ensures) (search needs) in
+    block-size (c .before .before .before .before .before .before .before .before .before .before .before .before .before .args .p .view .viewport) _ _ _ (viewport-on-screen _ (fits .port)) (fits .size) (c .before .before .before .before .before .before .block-length .ensures) (c .before .before .before .before .before .if1 .left) (c .before .before .before .copy-out .ensures)
+
+returns-3 : tie.Need-returns-3
+returns-3 c = replies-returned (c .before .before .before .before .before .before .before .before .before .before .before .before .before .args .p) _ (c .before .before .before .before .before .before .before .before .before .before .judge .result) (c .before .before .before .before .before .before .before .before .before .before .judge .ensures) _ _ _ _ (search needs) (c .before .before .before .before .before .before .block-length .ensures) (c .before .before .before .before .before .if1 .left) (c .before .before .before .copy-out .ensures) (c .done .ensures)
+
+pub return-block-spec : {M : Type 1} → statement M
+return-block-spec =
+    tie.close
+    (tie.spec
+    judge-requires
+    enum-known-judged
+    refused-requires
+    enum-told
+    block-length-requires
+    refused-requires-2
+    returns
+    copy-out-requires
+    done-requires
+    returns-2
+    same-length
+    returns-3)

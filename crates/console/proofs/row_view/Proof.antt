@@ -1,0 +1,105 @@
+-- `console::row_view` meets its contract: an empty part where the call is refused or the row is past the last, and else the row's own part, which ends on the screen. Assumes nothing.
+use mathlib.Core.Path.{refl}
+use native.Mathlib.Omega.{arith}
+use borrow.Author.Needs.{needs}
+use Rattle.console.proofs.Carrying.{viewport-on-screen}
+use Rattle.console.proofs.Replying.{fit, row-refused, row-past, row-good, row-end}
+use Rattle.console.proofs.row_view.Statement.{statement}
+use Rattle.console.proofs.row_view.Tie as tie
+
+judge-requires : tie.Need-judge-requires
+judge-requires c κs = search needs
+
+enum-told : tie.Need-enum-told
+enum-told c = search needs
+
+sub-result : tie.Need-sub-result
+sub-result c = search needs
+
+part-result-start : tie.Need-part-result-start
+part-result-start c = search needs
+
+part-result-end : tie.Need-part-result-end
+part-result-end c = search needs
+
+enum-told-2 : tie.Need-enum-told-2
+enum-told-2 c = search needs
+
+height-requires : tie.Need-height-requires
+height-requires c κs = viewport-on-screen _ (fit (c .before .before .before .before .before .args .p) (c .before .before .before .before .before .args .screen .now) (c .before .before .before .judge .result) (c .before .before .before .judge .ensures) (search needs) .port)
+
+cast-if1 : tie.Need-cast-if1
+cast-if1 c = search needs
+
+row-start-requires : tie.Need-row-start-requires
+row-start-requires c κs =
+    let tall = c .before .height .ensures in
+    let low = c .if1 .taken in
+    (viewport-on-screen _ (fit (c .before .before .before .before .before .before .before .args .p) (c .before .before .before .before .before .before .before .args .screen .now) (c .before .before .before .before .before .judge .result) (c .before .before .before .before .before .judge .ensures) (search needs) .port), omega arith)
+
+width-requires : tie.Need-width-requires
+width-requires c κs = viewport-on-screen _ (fit (c .before .before .before .before .before .before .before .before .args .p) (c .before .before .before .before .before .before .before .before .args .screen .now) (c .before .before .before .before .before .before .judge .result) (c .before .before .before .before .before .before .judge .ensures) (search needs) .port)
+
+cast-end : tie.Need-cast-end
+cast-end c = search needs
+
+add-end : tie.Need-add-end
+add-end c =
+    let size = fit (c .before .before .before .before .before .before .before .before .before .args .p) (c .before .before .before .before .before .before .before .before .before .args .screen .now) (c .before .before .before .before .before .before .before .judge .result) (c .before .before .before .before .before .before .before .judge .ensures) (search needs) .size in
+    let room = row-end (c .before .before .before .before .before .before .before .before .before .args .p) (c .before .before .before .before .before .before .before .before .before .args .screen .now) (c .before .before .before .before .before .before .before .judge .result) (c .before .before .before .before .before .before .before .judge .ensures) _ _ _ _ (search needs) (c .before .before .before .height .ensures) (c .before .before .if1 .taken) (c .before .row-start .ensures) (c .width .ensures) in
+    omega arith
+
+sub-result-2 : tie.Need-sub-result-2
+sub-result-2 c = search needs
+
+part-result-start-2 : tie.Need-part-result-start-2
+part-result-start-2 c = search needs
+
+part-result-end-2 : tie.Need-part-result-end-2
+part-result-end-2 c = row-end (c .before .before .before .before .before .before .before .before .before .args .p) (c .before .before .before .before .before .before .before .before .before .args .screen .now) (c .before .before .before .before .before .before .before .judge .result) (c .before .before .before .before .before .before .before .judge .ensures) _ _ _ _ (search needs) (c .before .before .before .height .ensures) (c .before .before .if1 .taken) (c .before .row-start .ensures) (c .width .ensures)
+
+returns : tie.Need-returns
+returns c = row-good (c .before .before .before .before .before .before .before .before .before .before .args .p) (c .before .before .before .before .before .before .before .before .before .before .args .screen .now) (c .before .before .before .before .before .before .before .before .judge .result) (c .before .before .before .before .before .before .before .before .judge .ensures) _ _ _ _ _ (search needs) (c .before .before .before .before .height .ensures) (c .before .before .before .if1 .taken) (c .before .before .row-start .ensures) (c .before .width .ensures) refl
+
+sub-result-3 : tie.Need-sub-result-3
+sub-result-3 c = search needs
+
+part-result-start-3 : tie.Need-part-result-start-3
+part-result-start-3 c = search needs
+
+part-result-end-3 : tie.Need-part-result-end-3
+part-result-end-3 c = search needs
+
+returns-2 : tie.Need-returns-2
+returns-2 c =
+    let told = c .before .enum-told .given in
+    row-refused (c .before .before .before .before .before .args .p) (c .before .before .before .before .before .args .screen .now) (c .before .before .before .judge .result) (c .before .before .before .judge .ensures) _ _ (told .0 .0) (told .1) refl
+
+returns-3 : tie.Need-returns-3
+returns-3 c = row-past (c .before .before .before .before .before .before .before .before .args .p) (c .before .before .before .before .before .before .before .before .args .screen .now) (c .before .before .before .before .before .before .judge .result) (c .before .before .before .before .before .before .judge .ensures) _ _ _ (search needs) (c .before .before .height .ensures) (c .before .if1 .left) refl
+
+pub row-view-spec : {M : Type 1} → statement M
+row-view-spec =
+    tie.close
+    (tie.spec
+    judge-requires
+    enum-told
+    sub-result
+    part-result-start
+    part-result-end
+    enum-told-2
+    height-requires
+    cast-if1
+    row-start-requires
+    width-requires
+    cast-end
+    add-end
+    sub-result-2
+    part-result-start-2
+    part-result-end-2
+    returns
+    sub-result-3
+    part-result-start-3
+    part-result-end-3
+    returns-2
+    returns-3)

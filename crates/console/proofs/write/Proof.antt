@@ -1,0 +1,52 @@
+-- `console::write` meets its contract: refused before it starts, or what `carry_stream` leaves is what the definition draws. Assumes nothing.
+use borrow.Author.Needs.{needs}
+use Rattle.console.proofs.Replying.{fit, replies-refused, replies-written}
+use Rattle.console.proofs.Carrying.{same-size}
+use Rattle.console.specs.Calls.{written}
+use Rattle.console.proofs.write.Statement.{statement}
+use Rattle.console.proofs.write.Tie as tie
+
+judge-requires : tie.Need-judge-requires
+judge-requires c κs = search needs
+
+enum-known-judged : tie.Need-enum-known-judged
+enum-known-judged c = search needs
+
+refused-requires : tie.Need-refused-requires
+refused-requires c κs = search needs
+
+enum-told : tie.Need-enum-told
+enum-told c = search needs
+
+carry-stream-requires : tie.Need-carry-stream-requires
+carry-stream-requires c κs =
+    let fits = fit (c .before .before .before .before .before .before .args .p) (c .before .before .before .before .before .before .args .screen .now) (c .before .before .before .judge .result) (c .before .before .before .judge .ensures) (search needs) in
+    (fits .port, fits .size)
+
+done-requires : tie.Need-done-requires
+done-requires c κs = search needs
+
+returns : tie.Need-returns
+returns c = replies-refused (c .before .before .before .before .before .before .before .args .p) _ (c .before .before .before .before .judge .result) (c .before .before .before .before .judge .ensures) written _ _ _ (search needs) (c .refused .ensures)
+
+same-length : tie.Need-same-length
+same-length c =
+    let fits = fit (c .before .before .before .before .before .before .before .before .before .before .args .p) (c .before .before .before .before .before .before .before .before .before .before .args .screen .now) (c .before .before .before .before .before .before .before .judge .result) (c .before .before .before .before .before .before .before .judge .ensures) (search needs) in
+    same-size (c .before .before .before .carry-stream .ensures) (fits .size)
+
+returns-2 : tie.Need-returns-2
+returns-2 c = replies-written (c .before .before .before .before .before .before .before .before .before .before .args .p) _ (c .before .before .before .before .before .before .before .judge .result) (c .before .before .before .before .before .before .before .judge .ensures) _ _ _ _ _ (search needs) (c .before .before .before .carry-stream .ensures) (c .done .ensures)
+
+pub write-spec : {M : Type 1} → statement M
+write-spec =
+    tie.close
+    (tie.spec
+    judge-requires
+    enum-known-judged
+    refused-requires
+    enum-told
+    carry-stream-requires
+    done-requires
+    returns
+    same-length
+    returns-2)

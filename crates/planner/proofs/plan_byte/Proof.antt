@@ -1,0 +1,24 @@
+-- `planner::plan_byte` meets its contract: the test is the definition's, by what `parameters` returns. Assumes nothing.
+use borrow.Author.Needs.{needs}
+use Rattle.planner.proofs.Carried.{is-parameter, is-code}
+use Rattle.planner.proofs.plan_byte.Statement.{statement}
+use Rattle.planner.proofs.plan_byte.Tie as tie
+
+parameters-requires : tie.Need-parameters-requires
+parameters-requires c κs = search needs
+
+parameter-requires : tie.Need-parameter-requires
+parameter-requires c κs = search needs
+
+returns : tie.Need-returns
+returns c = search is-parameter
+
+obey-requires : tie.Need-obey-requires
+obey-requires c κs = search needs
+
+returns-2 : tie.Need-returns-2
+returns-2 c = search is-code
+
+pub plan-byte-spec : {M : Type 1} → statement M
+plan-byte-spec =
+    tie.close (tie.spec parameters-requires parameter-requires returns obey-requires returns-2)

@@ -1,0 +1,18 @@
+-- `port::valid::is_zero_view` meets its contract: the definition's tests, by what each call returns. Assumes nothing.
+use borrow.Author.Needs.{needs}
+use Rattle.port.specs.Valid.{isZeroView}
+use Rattle.port.proofs.valid.is_zero_view.Statement.{statement}
+use Rattle.port.proofs.valid.is_zero_view.Tie as tie
+
+zero-rect-requires : tie.Need-zero-rect-requires
+zero-rect-requires c κs = search needs
+
+no-flags-requires : tie.Need-no-flags-requires
+no-flags-requires c κs = search needs
+
+returns : tie.Need-returns
+unfolding isZeroView
+returns c = (cc)
+
+pub is-zero-view-spec : {M : Type 1} → statement M
+is-zero-view-spec = tie.close (tie.spec zero-rect-requires no-flags-requires returns)

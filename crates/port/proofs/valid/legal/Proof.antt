@@ -1,0 +1,12 @@
+-- `port::valid::legal` meets its contract: the tests are the definition's, joined as it joins them. Assumes nothing.
+use mathlib.Core.Path.{refl}
+use Rattle.port.specs.Valid.{legal}
+use Rattle.port.proofs.valid.legal.Statement.{statement}
+use Rattle.port.proofs.valid.legal.Tie as tie
+
+returns : tie.Need-returns
+unfolding legal
+returns c = refl
+
+pub legal-spec : {M : Type 1} → statement M
+legal-spec = tie.close (tie.spec returns)

@@ -1,0 +1,72 @@
+// The default and the fresh state.
+use super::Flags;
+use super::Port;
+use super::View;
+use screen::Rect;
+ghost use mathlib.Core.Path.{_≡_};
+ghost use Rattle.port.specs.State.{defaultView, zeroView, freshPort};
+
+// The viewport is home, the cursor top left, all flags on, normal text.
+pub fn default_view(home: Rect) -> View
+    ensures { λ r. ⌜ r ≡ defaultView home ⌝ }
+{
+    let flags = Flags {
+        dle: true,
+        scroll: true,
+        wrap: true,
+        lf: true,
+        advance: true,
+    };
+    View {
+        viewport: home,
+        column: home.left,
+        line: home.top,
+        flags,
+        inverse: false,
+        mousetext: false,
+    }
+}
+
+// Every field 0 or false.
+pub fn zero_view() -> View
+    ensures { λ r. ⌜ r ≡ zeroView ⌝ }
+{
+    let flags = Flags {
+        dle: false,
+        scroll: false,
+        wrap: false,
+        lf: false,
+        advance: false,
+    };
+    let viewport = Rect {
+        left: 0,
+        top: 0,
+        right: 0,
+        bottom: 0,
+    };
+    View {
+        viewport,
+        column: 0,
+        line: 0,
+        flags,
+        inverse: false,
+        mousetext: false,
+    }
+}
+
+// The default state, with nothing saved and nothing waiting.
+pub fn fresh_port(home: Rect) -> Port
+    ensures { λ r. ⌜ r ≡ freshPort home ⌝ }
+{
+    let view = default_view(home);
+    let saved = zero_view();
+    Port {
+        home,
+        view,
+        hassaved: false,
+        saved,
+        waiting: 0,
+        gathered: [0; 4],
+        count: 0,
+    }
+}

@@ -1,0 +1,116 @@
+// When a port is valid. The tests are joined without branches, as the definitions are.
+use super::Flags;
+use super::Port;
+use super::View;
+use screen::Rect;
+ghost use mathlib.Core.Path.{_≡_};
+ghost use Prim.Native.Nat.{_<_};
+ghost use Rattle.port.specs.Valid as rules;
+
+// How many parameters a code takes.
+pub fn parameters(code: u8) -> u8
+    ensures { λ r. ⌜ r ≡ rules.parameters code ⌝ }
+{
+    match code {
+        0x02 => 4,
+        0x05 => 1,
+        0x06 => 1,
+        0x10 => 1,
+        0x14 => 1,
+        0x15 => 1,
+        0x1E => 2,
+        _ => 0,
+    }
+}
+
+pub fn legal(r: Rect) -> bool
+    ensures { λ b. ⌜ b ≡ rules.legal r ⌝ }
+{
+    ((r.left < r.right) & (r.right <= 79)) & ((r.top < r.bottom) & (r.bottom <= 23))
+}
+
+fn within(inner: Rect, outer: Rect) -> bool
+    ensures { λ b. ⌜ b ≡ rules.within inner outer ⌝ }
+{
+    ((outer.left <= inner.left) & (inner.right <= outer.right))
+        & ((outer.top <= inner.top) & (inner.bottom <= outer.bottom))
+}
+
+fn cursor_inside(v: View) -> bool
+    ensures { λ b. ⌜ b ≡ rules.cursorInside v ⌝ }
+{
+    let w = v.viewport;
+    ((w.left <= v.column) & (v.column <= w.right)) & ((w.top <= v.line) & (v.line <= w.bottom))
+}
+
+fn valid_view(home: Rect, v: View) -> bool
+    ensures { λ b. ⌜ b ≡ rules.validView home v ⌝ }
+{
+    (legal(v.viewport) & within(v.viewport, home)) & cursor_inside(v)
+}
+
+fn zero_rect(r: Rect) -> bool
+    ensures { λ b. ⌜ b ≡ rules.zeroRect r ⌝ }
+{
+    ((r.left == 0) & (r.top == 0)) & ((r.right == 0) & (r.bottom == 0))
+}
+
+fn no_flags(f: Flags) -> bool
+    ensures { λ b. ⌜ b ≡ rules.noFlags f ⌝ }
+{
+    ((!f.dle & !f.scroll) & (!f.wrap & !f.lf)) & !f.advance
+}
+
+pub fn is_zero_view(v: View) -> bool
+    ensures { λ b. ⌜ b ≡ rules.isZeroView v ⌝ }
+{
+    (zero_rect(v.viewport) & ((v.column == 0) & (v.line == 0)))
+        & (no_flags(v.flags) & (!v.inverse & !v.mousetext))
+}
+
+fn valid_saved(home: Rect, has: bool, v: View) -> bool
+    ensures { λ b. ⌜ b ≡ rules.validSaved home has v ⌝ }
+{
+    if has {
+        return valid_view(home, v);
+    }
+    is_zero_view(v)
+}
+
+fn used_or_zero(gathered: [u8; 4], count: u8, i: u8) -> bool
+    requires { ⌜ i < 4 ⌝ }
+    ensures { λ b. ⌜ b ≡ rules.usedOrZero gathered count i ⌝ }
+{
+    let place = i as usize;
+    (i < count) | (gathered[place] == 0)
+}
+
+fn unused_zero(gathered: [u8; 4], count: u8) -> bool
+    ensures { λ b. ⌜ b ≡ rules.unusedZero gathered count ⌝ }
+{
+    (used_or_zero(gathered, count, 0) & used_or_zero(gathered, count, 1))
+        & (used_or_zero(gathered, count, 2) & used_or_zero(gathered, count, 3))
+}
+
+fn count_fits(code: u8, count: u8) -> bool
+    ensures { λ b. ⌜ b ≡ rules.countFits code count ⌝ }
+{
+    if code == 0 {
+        return count == 0;
+    }
+    count < parameters(code)
+}
+
+fn valid_wait(code: u8, gathered: [u8; 4], count: u8) -> bool
+    ensures { λ b. ⌜ b ≡ rules.validWait code gathered count ⌝ }
+{
+    count_fits(code, count) & unused_zero(gathered, count)
+}
+
+pub fn valid_port(p: Port) -> bool
+    ensures { λ b. ⌜ b ≡ rules.valid p ⌝ }
+{
+    let gathered = p.gathered;
+    (legal(p.home) & valid_view(p.home, p.view))
+        & (valid_saved(p.home, p.hassaved, p.saved) & valid_wait(p.waiting, gathered, p.count))
+}

@@ -1,0 +1,50 @@
+-- What the codes with parameters compute, in the definitions' words. Assumes nothing.
+use Prim.Native.Nat.{ℕ, _+_, _-_, _≤_, _<_, min}
+use mathlib.Core.Path.{_≡_, sym, ap, _∙_, subst}
+use mathlib.Core.Bool.{Bool, true, _&&_}
+use native.Mathlib.Omega.{arith}
+use lib.Dec.{leb, ltb}
+use borrow.Author.Tests.{leb-true}
+use Rattle.screen.specs.declared.Edit.{Edit}
+use Rattle.screen.specs.declared.Motion.the-variants.{Left}
+use Rattle.screen.specs.Cells.{OnScreen}
+use Rattle.screen.proofs.Tests.{by-test, and-left, and-right}
+use Rattle.port.specs.declared.View.{View}
+use Rattle.port.specs.State.{rectOf}
+use Rattle.port.specs.Effect.{cursorAt, moveEdit}
+use Rattle.port.specs.Codes.{setVertical, setHorizontal, gotoXY, inOffsetRange, resize}
+
+-- $05: 256 is no byte, so the code takes from 255 and adds one
+pub back-by : {e : Edit} (v : View) (b : ℕ) → b < 256 → e ≡ moveEdit v (Left (255 - b + 1)) → e ≡ moveEdit v (Left (256 - b))
+back-by v b h p = p ∙ ap (λ (n : ℕ). moveEdit v (Left n)) (omega arith)
+
+-- $06 and $14: to go on from the first line or column by at most the room that is left is to stop at the last
+pub clamped : (low high n m : ℕ) → low ≤ high → m ≡ min n (high - low) → low + m ≡ min (low + n) high
+clamped low high n m h p = omega arith
+
+pub placed : {u : View} (v : View) (x y x′ y′ : ℕ) → u ≡ cursorAt v x y → x ≡ x′ → y ≡ y′ → u ≡ cursorAt v x′ y′
+placed v x y x′ y′ e p q = cc
+
+-- $02: 32 can be taken from a parameter that is in range
+pub offset-fits : (n : ℕ) (t : Bool) → t ≡ inOffsetRange n → t ≡ true → 32 ≤ n
+unfolding inOffsetRange
+offset-fits n t p h = leb-true 32 n (and-left (leb 32 n) (leb n 127) (sym p ∙ h))
+
+-- $02: the four tests, and the four edges, that the calls returned stand for the definition's
+pub same-tests : {t : Bool} (a b c d a′ b′ c′ d′ : Bool) → a ≡ a′ → b ≡ b′ → c ≡ c′ → d ≡ d′ → ((a && b) && (c && d)) ≡ t
+    → ((a′ && b′) && (c′ && d′)) ≡ t
+same-tests a b c d a′ b′ c′ d′ p q r s e = cc
+
+pub same-edges : {u : View} (v : View) (a b c d a′ b′ c′ d′ : ℕ) → a ≡ a′ → b ≡ b′ → c ≡ c′ → d ≡ d′ → u ≡ resize v (rectOf a b c d)
+    → u ≡ resize v (rectOf a′ b′ c′ d′)
+same-edges v a b c d a′ b′ c′ d′ p q r s e = cc
+
+-- $1E: $14 leaves the viewport, so $06 may follow
+pub after-column : {u : View} (v : View) (b : ℕ) → OnScreen (v .viewport) → u ≡ setHorizontal v b → OnScreen (u .viewport)
+unfolding setHorizontal
+after-column v b h e = subst (λ (w : View). OnScreen (w .viewport)) (sym e) (by-test (λ (w : View). OnScreen (w .viewport)) (ltb b 32) (λ _. h) (λ _. h))
+
+pub then-line : {u w : View} (v : View) (column line : ℕ) → u ≡ setHorizontal v column → w ≡ setVertical u line → w ≡ gotoXY v column line
+then-line v column line p q = q ∙ ap (λ (x : View). setVertical x line) p
+
+pub ruleset offsets = (offset-fits, and-left, and-right)

@@ -1,0 +1,75 @@
+-- `view::cursor::backspace` meets its contract: each of the four ways through it is an arm of the definition.
+-- A line to wrap from is below the top one, so one can be taken from its number. Assumes nothing.
+use native.Mathlib.Omega.{arith}
+use borrow.Author.Needs.{needs}
+use Rattle.port.specs.Codes.{backspace}
+use Rattle.screen.proofs.Choices.{choices}
+use Rattle.view.proofs.Moves.{and-below}
+use Rattle.view.proofs.Plans.{plans}
+use Rattle.view.proofs.cursor.backspace.Statement.{statement}
+use Rattle.view.proofs.cursor.backspace.Tie as tie
+
+sub-cursor-at : tie.Need-sub-cursor-at
+sub-cursor-at c = search needs
+
+cursor-at-requires : tie.Need-cursor-at-requires
+cursor-at-requires c κs = search needs
+
+still-requires : tie.Need-still-requires
+still-requires c κs = search needs
+
+returns : tie.Need-returns
+unfolding backspace
+returns c = search (choices, plans)
+
+sub-cursor-at-2 : tie.Need-sub-cursor-at-2
+sub-cursor-at-2 c = omega (arith, and-below)
+
+cursor-at-requires-2 : tie.Need-cursor-at-requires-2
+cursor-at-requires-2 c κs = search needs
+
+still-requires-2 : tie.Need-still-requires-2
+still-requires-2 c κs = search needs
+
+returns-2 : tie.Need-returns-2
+unfolding backspace
+returns-2 c = search (choices, plans)
+
+cursor-at-requires-3 : tie.Need-cursor-at-requires-3
+cursor-at-requires-3 c κs = search needs
+
+move-cells-requires : tie.Need-move-cells-requires
+move-cells-requires c κs = search needs
+
+once-requires : tie.Need-once-requires
+once-requires c κs = search needs
+
+returns-3 : tie.Need-returns-3
+unfolding backspace
+returns-3 c = search (choices, plans)
+
+still-requires-3 : tie.Need-still-requires-3
+still-requires-3 c κs = search needs
+
+returns-4 : tie.Need-returns-4
+unfolding backspace
+returns-4 c = search (choices, plans)
+
+pub backspace-spec : {M : Type 1} → statement M
+backspace-spec =
+    tie.close
+    (tie.spec
+    sub-cursor-at
+    cursor-at-requires
+    still-requires
+    returns
+    sub-cursor-at-2
+    cursor-at-requires-2
+    still-requires-2
+    returns-2
+    cursor-at-requires-3
+    move-cells-requires
+    once-requires
+    returns-3
+    still-requires-3
+    returns-4)

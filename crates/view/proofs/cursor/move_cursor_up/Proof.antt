@@ -1,0 +1,51 @@
+-- `view::cursor::move_cursor_up` meets its contract: each of the three ways through it is an arm of the definition. Assumes nothing.
+use borrow.Author.Needs.{needs}
+use Rattle.port.specs.Codes.{moveCursorUp}
+use Rattle.screen.proofs.Choices.{choices}
+use Rattle.view.proofs.Plans.{plans}
+use Rattle.view.proofs.cursor.move_cursor_up.Statement.{statement}
+use Rattle.view.proofs.cursor.move_cursor_up.Tie as tie
+
+sub-cursor-at : tie.Need-sub-cursor-at
+sub-cursor-at c = search needs
+
+cursor-at-requires : tie.Need-cursor-at-requires
+cursor-at-requires c κs = search needs
+
+still-requires : tie.Need-still-requires
+still-requires c κs = search needs
+
+returns : tie.Need-returns
+unfolding moveCursorUp
+returns c = search (choices, plans)
+
+move-cells-requires : tie.Need-move-cells-requires
+move-cells-requires c κs = search needs
+
+once-requires : tie.Need-once-requires
+once-requires c κs = search needs
+
+returns-2 : tie.Need-returns-2
+unfolding moveCursorUp
+returns-2 c = search (choices, plans)
+
+still-requires-2 : tie.Need-still-requires-2
+still-requires-2 c κs = search needs
+
+returns-3 : tie.Need-returns-3
+unfolding moveCursorUp
+returns-3 c = search (choices, plans)
+
+pub move-cursor-up-spec : {M : Type 1} → statement M
+move-cursor-up-spec =
+    tie.close
+    (tie.spec
+    sub-cursor-at
+    cursor-at-requires
+    still-requires
+    returns
+    move-cells-requires
+    once-requires
+    returns-2
+    still-requires-2
+    returns-3)

@@ -1,0 +1,17 @@
+-- `view::erase::clear_from_line_start` meets its contract: it makes the one edit that `erased` promises. Assumes nothing.
+use borrow.Author.Needs.{needs}
+use Rattle.view.proofs.Plans.{plans}
+use Rattle.view.proofs.erase.clear_from_line_start.Statement.{statement}
+use Rattle.view.proofs.erase.clear_from_line_start.Tie as tie
+
+erased-requires : tie.Need-erased-requires
+erased-requires c κs = search needs
+
+once-requires : tie.Need-once-requires
+once-requires c κs = search needs
+
+returns : tie.Need-returns
+returns c = search plans
+
+pub clear-from-line-start-spec : {M : Type 1} → statement M
+clear-from-line-start-spec = tie.close (tie.spec erased-requires once-requires returns)

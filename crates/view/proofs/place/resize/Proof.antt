@@ -1,0 +1,16 @@
+-- `view::place::resize` meets its contract: it makes the definition's test, and sets what the definition sets. Assumes nothing.
+use Rattle.port.specs.Codes.{resize}
+use Rattle.screen.proofs.Choices.{choices}
+use Rattle.view.proofs.place.resize.Statement.{statement}
+use Rattle.view.proofs.place.resize.Tie as tie
+
+returns : tie.Need-returns
+unfolding resize
+returns c = search choices
+
+returns-2 : tie.Need-returns-2
+unfolding resize
+returns-2 c = search choices
+
+pub resize-spec : {M : Type 1} → statement M
+resize-spec = tie.close (tie.spec returns returns-2)

@@ -1,0 +1,10 @@
+-- `view::set_cursor_movement` meets its contract: each of the five masks takes the bit that the definition names. Assumes nothing.
+use Rattle.view.proofs.Bits.{low-bit}
+use Rattle.view.proofs.set_cursor_movement.Statement.{statement}
+use Rattle.view.proofs.set_cursor_movement.Tie as tie
+
+returns : tie.Need-returns
+returns c = simp low-bit
+
+pub set-cursor-movement-spec : {M : Type 1} → statement M
+set-cursor-movement-spec = tie.close (tie.spec returns)

@@ -1,0 +1,108 @@
+// Codes that erase cells of the viewport.
+use super::Change;
+use super::Moved;
+use super::ViewPlan;
+use super::cursor_at;
+use super::fill_byte;
+use super::once;
+use port::View;
+use screen::Edit;
+use screen::Motion;
+use screen::Rect;
+ghost use mathlib.Core.Path.{_≡_};
+ghost use Rattle.port.specs.State.{rectOf};
+ghost use Rattle.port.specs.Effect.{eraseEdit};
+ghost use Rattle.port.specs.Codes.{clearFromLineStart, clearToLineEnd, clearLine, clearFromPortStart, clearToPortEnd, clearPortAndHome};
+ghost use Rattle.view.specs.Plan.{effectOf, planEffect};
+
+// A rectangle of the viewport is erased.
+fn erased(v: View, left: u8, top: u8, right: u8, bottom: u8) -> Edit
+    ensures { λ r. ⌜ r ≡ eraseEdit v (rectOf left top right bottom) ⌝ }
+{
+    let fill = fill_byte(v);
+    Edit {
+        rect: Rect {
+            left,
+            top,
+            right,
+            bottom,
+        },
+        motion: Motion::Clear,
+        fill,
+    }
+}
+
+// $03: from the left edge to the cursor.
+pub fn clear_from_line_start(v: View) -> Moved
+    ensures { λ r. ⌜ effectOf r ≡ clearFromLineStart v ⌝ }
+{
+    let port = v.viewport;
+    once(v, erased(v, port.left, v.line, v.column, v.line))
+}
+
+// $1D: from the cursor to the right edge.
+pub fn clear_to_line_end(v: View) -> Moved
+    ensures { λ r. ⌜ effectOf r ≡ clearToLineEnd v ⌝ }
+{
+    let port = v.viewport;
+    once(v, erased(v, v.column, v.line, port.right, v.line))
+}
+
+// $1A: the cursor's line.
+pub fn clear_line(v: View) -> Moved
+    ensures { λ r. ⌜ effectOf r ≡ clearLine v ⌝ }
+{
+    let port = v.viewport;
+    once(v, erased(v, port.left, v.line, port.right, v.line))
+}
+
+// $13: the lines above the cursor's, and its own up to the cursor.
+pub fn clear_from_port_start(v: View) -> ViewPlan
+    ensures { λ r. ⌜ planEffect r ≡ clearFromPortStart v ⌝ }
+{
+    let port = v.viewport;
+    let own = erased(v, port.left, v.line, v.column, v.line);
+    if port.top < v.line {
+        let above = erased(v, port.left, port.top, port.right, v.line - 1);
+        return ViewPlan {
+            view: v,
+            first: Change::Draw(above),
+            second: Change::Draw(own),
+        };
+    }
+    ViewPlan {
+        view: v,
+        first: Change::Draw(own),
+        second: Change::Nothing,
+    }
+}
+
+// $0B: the cursor's line from the cursor on, and the lines below it.
+pub fn clear_to_port_end(v: View) -> ViewPlan
+    ensures { λ r. ⌜ planEffect r ≡ clearToPortEnd v ⌝ }
+{
+    let port = v.viewport;
+    let own = erased(v, v.column, v.line, port.right, v.line);
+    if v.line < port.bottom {
+        let below = erased(v, port.left, v.line + 1, port.right, port.bottom);
+        return ViewPlan {
+            view: v,
+            first: Change::Draw(own),
+            second: Change::Draw(below),
+        };
+    }
+    ViewPlan {
+        view: v,
+        first: Change::Draw(own),
+        second: Change::Nothing,
+    }
+}
+
+// $0C: the whole viewport, and the cursor to its top left.
+pub fn clear_port_and_home(v: View) -> Moved
+    ensures { λ r. ⌜ effectOf r ≡ clearPortAndHome v ⌝ }
+{
+    let port = v.viewport;
+    let whole = erased(v, port.left, port.top, port.right, port.bottom);
+    once(cursor_at(v, port.left, port.top), whole)
+}

@@ -1,0 +1,125 @@
+// What printing and each code of paper 01 do to a view, as a plan: the next view and the edits of the screen, at most two.
+// No function here sees a screen: what a port does next never depends on a cell.
+pub mod cursor;
+pub mod erase;
+pub mod place;
+
+use charset::Mode;
+use port::Flags;
+use port::View;
+use screen::Edit;
+use screen::Motion;
+use screen::Rect;
+ghost use mathlib.Core.Path.{_≡_};
+ghost use Prim.Native.Nat.{_≤_, min};
+ghost use Rattle.port.specs.Effect.{fillByte, cursorAt, withModes, moveEdit};
+ghost use Rattle.port.specs.Codes.{modeOf, setCursorMovement};
+ghost use Rattle.view.specs.Plan.{stillOf, onceOf};
+
+// At most one edit.
+pub enum Change {
+    Nothing,
+    Draw(Edit),
+}
+
+// The next view, with at most one edit.
+pub struct Moved {
+    pub view: View,
+    pub change: Change,
+}
+
+// The next view, with at most two edits in their order.
+pub struct ViewPlan {
+    pub view: View,
+    pub first: Change,
+    pub second: Change,
+}
+
+pub fn still(view: View) -> Moved
+    ensures { λ r. ⌜ r ≡ stillOf view ⌝ }
+{
+    Moved {
+        view,
+        change: Change::Nothing,
+    }
+}
+
+pub fn once(view: View, edit: Edit) -> Moved
+    ensures { λ r. ⌜ r ≡ onceOf view edit ⌝ }
+{
+    Moved {
+        view,
+        change: Change::Draw(edit),
+    }
+}
+
+// The view with its cursor elsewhere.
+pub fn cursor_at(v: View, column: u8, line: u8) -> View
+    ensures { λ r. ⌜ r ≡ cursorAt v column line ⌝ }
+{
+    let mut moved = v;
+    moved.column = column;
+    moved.line = line;
+    moved
+}
+
+// The byte that erased and vacated cells get: a blank.
+pub fn fill_byte(v: View) -> u8
+    ensures { λ r. ⌜ r ≡ fillByte v ⌝ }
+{
+    0xA0
+}
+
+// The viewport's cells move.
+pub fn move_cells(v: View, motion: Motion) -> Edit
+    ensures { λ r. ⌜ r ≡ moveEdit v motion ⌝ }
+{
+    let rect = v.viewport;
+    let fill = fill_byte(v);
+    Edit { rect, motion, fill }
+}
+
+pub fn least(a: u8, b: u8) -> u8
+    ensures { λ r. ⌜ r ≡ min a b ⌝ }
+{
+    if a < b { a } else { b }
+}
+
+// The mode that a printing code is stored in: MouseText has no effect in normal mode.
+pub fn mode_of(v: View) -> Mode
+    ensures { λ r. ⌜ r ≡ modeOf v ⌝ }
+{
+    if v.inverse {
+        if v.mousetext {
+            return Mode::MouseText;
+        }
+        return Mode::Inverse;
+    }
+    Mode::Normal
+}
+
+// $0E, $0F, $18, $1B.
+pub fn with_modes(v: View, inverse: bool, mousetext: bool) -> View
+    ensures { λ r. ⌜ r ≡ withModes v inverse mousetext ⌝ }
+{
+    let mut set = v;
+    set.inverse = inverse;
+    set.mousetext = mousetext;
+    set
+}
+
+// $15: bit 4 is DLE, then scroll, wrap and LF, and bit 0 is advance. The top three bits are dropped.
+pub fn set_cursor_movement(v: View, b: u8) -> View
+    ensures { λ r. ⌜ r ≡ setCursorMovement v b ⌝ }
+{
+    let flags = Flags {
+        dle: (b >> 4) & 1 == 1,
+        scroll: (b >> 3) & 1 == 1,
+        wrap: (b >> 2) & 1 == 1,
+        lf: (b >> 1) & 1 == 1,
+        advance: b & 1 == 1,
+    };
+    let mut set = v;
+    set.flags = flags;
+    set
+}

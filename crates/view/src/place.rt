@@ -1,0 +1,124 @@
+// Codes whose parameters place the cursor, the viewport or the viewport's cells.
+use super::Moved;
+use super::cursor_at;
+use super::least;
+use super::move_cells;
+use super::once;
+use super::still;
+use port::View;
+use screen::Motion;
+use screen::Rect;
+ghost use mathlib.Core.Path.{_≡_};
+ghost use Prim.Native.Nat.{_≤_, max};
+ghost use Rattle.screen.specs.Cells.{OnScreen};
+ghost use Rattle.port.specs.Codes.{horizontalScroll, setVertical, setHorizontal, gotoXY, homeCursor, inOffsetRange, nearestInside, resize, setPortSize};
+ghost use Rattle.view.specs.Plan.{effectOf};
+
+// $05: a signed byte. 1 to 127 shifts right, 128 to 255 left by 256 less it.
+pub fn horizontal_scroll(v: View, b: u8) -> Moved
+    ensures { λ r. ⌜ effectOf r ≡ horizontalScroll v b ⌝ }
+{
+    if b == 0 {
+        return still(v);
+    }
+    if b < 128 {
+        return once(v, move_cells(v, Motion::Right(b)));
+    }
+    once(v, move_cells(v, Motion::Left(255 - b + 1)))
+}
+
+// $06: a line of the viewport + 32.
+pub fn set_vertical(v: View, b: u8) -> View
+    requires { ⌜ OnScreen (v .viewport) ⌝ }
+    ensures { λ r. ⌜ r ≡ setVertical v b ⌝ }
+{
+    if b < 32 {
+        return v;
+    }
+    let port = v.viewport;
+    cursor_at(
+        v,
+        v.column,
+        port.top + least(b - 32, port.bottom - port.top),
+    )
+}
+
+// $14: a column of the viewport + 32.
+pub fn set_horizontal(v: View, b: u8) -> View
+    requires { ⌜ OnScreen (v .viewport) ⌝ }
+    ensures { λ r. ⌜ r ≡ setHorizontal v b ⌝ }
+{
+    if b < 32 {
+        return v;
+    }
+    let port = v.viewport;
+    cursor_at(v, port.left + least(b - 32, port.right - port.left), v.line)
+}
+
+fn in_offset_range(b: u8) -> bool
+    ensures { λ r. ⌜ r ≡ inOffsetRange b ⌝ }
+{
+    (32 <= b) & (b <= 127)
+}
+
+fn greatest(a: u8, b: u8) -> u8
+    ensures { λ r. ⌜ r ≡ max a b ⌝ }
+{
+    if a < b { b } else { a }
+}
+
+// The column or line of home that is nearest to a parameter's value.
+fn nearest(low: u8, high: u8, b: u8) -> u8
+    requires { ⌜ 32 ≤ b ⌝ }
+    ensures { λ r. ⌜ r ≡ nearestInside low high b ⌝ }
+{
+    greatest(low, least(b - 32, high))
+}
+
+// A new viewport, with the cursor at its top left; nothing changes where it is no more than one column or line.
+fn resize(v: View, rect: Rect) -> View
+    ensures { λ r. ⌜ r ≡ resize v rect ⌝ }
+{
+    if (rect.left < rect.right) & (rect.top < rect.bottom) {
+        let mut sized = v;
+        sized.viewport = rect;
+        sized.column = rect.left;
+        sized.line = rect.top;
+        return sized;
+    }
+    v
+}
+
+// $02: left, top, right and bottom, each + 32.
+pub fn set_port_size(home: Rect, v: View, left: u8, top: u8, right: u8, bottom: u8) -> View
+    ensures { λ r. ⌜ r ≡ setPortSize home v left top right bottom ⌝ }
+{
+    if (in_offset_range(left) & in_offset_range(top))
+        & (in_offset_range(right) & in_offset_range(bottom))
+    {
+        let rect = Rect {
+            left: nearest(home.left, home.right, left),
+            top: nearest(home.top, home.bottom, top),
+            right: nearest(home.left, home.right, right),
+            bottom: nearest(home.top, home.bottom, bottom),
+        };
+        return resize(v, rect);
+    }
+    v
+}
+
+// $1E: $14 and then $06.
+pub fn goto_xy(v: View, column: u8, line: u8) -> View
+    requires { ⌜ OnScreen (v .viewport) ⌝ }
+    ensures { λ r. ⌜ r ≡ gotoXY v column line ⌝ }
+{
+    set_vertical(set_horizontal(v, column), line)
+}
+
+// $19: the cursor to the top left.
+pub fn home_cursor(v: View) -> View
+    ensures { λ r. ⌜ r ≡ homeCursor v ⌝ }
+{
+    let port = v.viewport;
+    cursor_at(v, port.left, port.top)
+}

@@ -1,0 +1,91 @@
+//! A script of calls on a fresh wall, and the answers, both as bytes.
+//!
+//! A call is its kind, a client number, and then for an open (0) the
+//! pane's left, top, right and bottom, for a close (1) nothing, and for a
+//! write (2), block return (3) or block restore (4) a length of two
+//! bytes, low byte first, and that many bytes.
+//!
+//! An answer is the status, a count of four bytes, low byte first, for a
+//! block return the lent block afterwards, then every cell of the screen.
+
+use crate::port::Rectangle;
+use crate::wall::{self, Wall};
+
+enum Call<'a> {
+    Open(Rectangle),
+    Close,
+    Write(&'a [u8]),
+    BlockReturn(&'a [u8]),
+    BlockRestore(&'a [u8]),
+}
+
+/// Runs the calls in order, each on the wall and screen that the one
+/// before left. A call that is cut off or unknown ends the run.
+pub fn run_script(script: &[u8], screen: &mut [u8]) -> Vec<u8> {
+    let mut wall = Wall::fresh();
+    let mut answers = Vec::new();
+    let mut rest = script;
+    while let Some((number, call)) = take_call(&mut rest) {
+        let mut lent = Vec::new();
+        let (status, after, count) = match call {
+            Call::Open(pane) => wall::open(wall, screen, number, pane),
+            Call::Close => wall::close(wall, number),
+            Call::Write(bytes) => wall::write(wall, screen, number, bytes),
+            Call::BlockReturn(block) => {
+                lent = block.to_vec();
+                wall::block_return(wall, screen, number, &mut lent)
+            }
+            Call::BlockRestore(block) => wall::block_restore(wall, screen, number, block),
+        };
+        wall = after;
+        answers.push(status);
+        answers.extend_from_slice(&(count as u32).to_le_bytes());
+        answers.extend_from_slice(&lent);
+        answers.extend_from_slice(screen);
+    }
+    answers
+}
+
+/// The next call and its client number; none at the end of the script,
+/// in a call that is cut off, or at an unknown kind.
+fn take_call<'a>(rest: &mut &'a [u8]) -> Option<(u8, Call<'a>)> {
+    let kind = take_byte(rest)?;
+    let number = take_byte(rest)?;
+    let call = match kind {
+        0 => {
+            let left = take_byte(rest)?;
+            let top = take_byte(rest)?;
+            let right = take_byte(rest)?;
+            let bottom = take_byte(rest)?;
+            Call::Open(Rectangle { left, top, right, bottom })
+        }
+        1 => Call::Close,
+        2 => Call::Write(take_bytes(rest)?),
+        3 => Call::BlockReturn(take_bytes(rest)?),
+        4 => Call::BlockRestore(take_bytes(rest)?),
+        5..=255 => return None,
+    };
+    Some((number, call))
+}
+
+fn take_byte(rest: &mut &[u8]) -> Option<u8> {
+    let script = *rest;
+    if script.is_empty() {
+        return None;
+    }
+    *rest = &script[1..];
+    Some(script[0])
+}
+
+/// A length and as many bytes as it says.
+fn take_bytes<'a>(rest: &mut &'a [u8]) -> Option<&'a [u8]> {
+    let low = take_byte(rest)?;
+    let high = take_byte(rest)?;
+    let length = low as usize + high as usize * 256;
+    let script = *rest;
+    if script.len() < length {
+        return None;
+    }
+    *rest = &script[length..];
+    Some(&script[..length])
+}

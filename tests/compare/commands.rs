@@ -1,0 +1,96 @@
+//! Single commands of random streams: good, bad and cut off.
+
+use crate::pieces::Maker;
+use crate::port::parameters_needed;
+
+/// The codes that take parameters.
+const WITH_PARAMETERS: [u8; 7] = [0x02, 0x05, 0x06, 0x10, 0x14, 0x15, 0x1E];
+
+impl Maker {
+    /// One of the 1024 pairs: a setting of the flags and a command under it.
+    pub fn pair(&mut self, pair: u64) {
+        let setting = (pair % 32) as u8;
+        let code = (pair / 32 % 32) as u8;
+        let ignored_bits = self.numbers.byte() & 0b1110_0000;
+        self.stream.extend_from_slice(&[0x15, setting | ignored_bits]);
+        self.command(code);
+    }
+
+    /// Any control code, often under new flags.
+    pub fn any_command(&mut self) {
+        if self.numbers.once_in(2) {
+            self.flags();
+        }
+        let code = self.numbers.between(0x00, 0x1F);
+        self.command(code);
+    }
+
+    /// A control code with parameters that mean something.
+    fn command(&mut self, code: u8) {
+        match code {
+            0x02 => self.viewport(),
+            0x05 => self.shift(),
+            0x06 | 0x14 | 0x1E => {
+                self.stream.push(code);
+                for _ in 0..parameters_needed(code) {
+                    let place = self.place(self.width);
+                    self.stream.push(place);
+                }
+            }
+            0x10 => {
+                let count = self.numbers.between(32, 60);
+                self.stream.extend_from_slice(&[0x10, count]);
+            }
+            0x15 => self.flags(),
+            _ => self.stream.push(code),
+        }
+    }
+
+    /// A viewport that is ignored: one parameter out of range, or the last
+    /// column or line not after the first.
+    pub fn bad_viewport(&mut self) {
+        let (width, height) = (self.width, self.height);
+        self.viewport();
+        self.width = width;
+        self.height = height;
+        let start = self.stream.len() - 4;
+        let (left, top) = (self.stream[start], self.stream[start + 1]);
+        match self.numbers.below(6) {
+            0 => self.stream[start + 2] = left,
+            1 => self.stream[start + 3] = top,
+            2 => self.stream.swap(start, start + 2),
+            3 => self.stream.swap(start + 1, start + 3),
+            _ => {
+                let place = start + self.numbers.below(4) as usize;
+                let low = self.numbers.between(0x00, 0x1F);
+                let high = self.numbers.between(0x80, 0xFF);
+                self.stream[place] = self.numbers.pick(&[0x1F, 0x80, low, high]);
+            }
+        }
+    }
+
+    /// A code with parameters that are out of range or at its ends, look
+    /// like codes, or cross each other.
+    pub fn bad_command(&mut self) {
+        let code = self.numbers.pick(&WITH_PARAMETERS);
+        self.stream.push(code);
+        for _ in 0..parameters_needed(code) {
+            let low = self.numbers.between(0x00, 0x1F);
+            let high = self.numbers.between(0x80, 0xFF);
+            let any = self.numbers.byte();
+            let ends = self.numbers.pick(&[0x1F, 0x20, 0x21, 0x7F, 0x80, 0xFF]);
+            let parameter = self.numbers.pick(&[low, high, any, ends, ends, 0x20, 0x30]);
+            self.stream.push(parameter);
+        }
+    }
+
+    /// A command of which at least one parameter is missing.
+    pub fn command_cut_off(&mut self) {
+        let code = self.numbers.pick(&WITH_PARAMETERS);
+        self.stream.push(code);
+        for _ in 0..self.numbers.below(parameters_needed(code) as u64) {
+            let parameter = self.numbers.byte();
+            self.stream.push(parameter);
+        }
+    }
+}

@@ -1,0 +1,155 @@
+//! The pieces that random streams are made of.
+
+use crate::numbers::Numbers;
+
+pub struct Maker {
+    pub numbers: Numbers,
+    pub stream: Vec<u8>,
+    /// The measures of the viewport set last, as a guess for parameters.
+    pub width: u8,
+    pub height: u8,
+}
+
+impl Maker {
+    pub fn new(numbers: Numbers) -> Maker {
+        Maker { numbers, stream: Vec::new(), width: 80, height: 24 }
+    }
+
+    /// Some printing codes, fewer than `most`.
+    pub fn text(&mut self, most: u64) {
+        for _ in 0..self.numbers.below(most) {
+            let code = self.numbers.between(0x20, 0xFF);
+            self.stream.push(code);
+        }
+    }
+
+    /// Every cell of the screen, or of the viewport if one is set, printed
+    /// without scrolling.
+    pub fn text_everywhere(&mut self) {
+        self.stream.extend_from_slice(&[0x15, 0x17]);
+        for _ in 0..self.width as usize * self.height as usize {
+            let code = self.numbers.between(0x21, 0xFF);
+            self.stream.push(code);
+        }
+        self.stream.extend_from_slice(&[0x15, 0x1F, 0x19]);
+    }
+
+    pub fn flags(&mut self) {
+        let byte = self.numbers.byte();
+        self.stream.extend_from_slice(&[0x15, byte]);
+    }
+
+    /// A legal viewport: small, medium, or any.
+    pub fn viewport(&mut self) {
+        let (most_columns, most_lines) = match self.numbers.below(4) {
+            0 => (1, 1),
+            1 => (3, 3),
+            2 => (12, 6),
+            _ => (79, 23),
+        };
+        let (left, right) = self.stretch(79, most_columns);
+        let (top, bottom) = self.stretch(23, most_lines);
+        self.width = right - left + 1;
+        self.height = bottom - top + 1;
+        self.stream.extend_from_slice(&[0x02, left + 32, top + 32, right + 32, bottom + 32]);
+        // Values past the screen mean its last column and line.
+        let length = self.stream.len();
+        if right == 79 && self.numbers.once_in(2) {
+            self.stream[length - 2] = self.numbers.between(111, 127);
+        }
+        if bottom == 23 && self.numbers.once_in(2) {
+            self.stream[length - 1] = self.numbers.between(55, 127);
+        }
+    }
+
+    /// A first and a last place from 0 to `end`, the last 1 to `most`
+    /// places after the first; at either end of the screen now and then.
+    fn stretch(&mut self, end: u8, most: u8) -> (u8, u8) {
+        let distance = self.numbers.between(1, most);
+        let first = match self.numbers.below(6) {
+            0 => 0,
+            1 => end - distance,
+            _ => self.numbers.between(0, end - distance),
+        };
+        (first, first + distance)
+    }
+
+    pub fn dle_flood(&mut self) {
+        for _ in 0..1 + self.numbers.below(4) {
+            let any = self.numbers.byte();
+            let count = self.numbers.pick(&[0xFF, 0xFF, 0x21, 32 + self.width, any]);
+            self.stream.extend_from_slice(&[0x10, count]);
+        }
+    }
+
+    pub fn shift(&mut self) {
+        let width = self.width;
+        let any = self.numbers.byte();
+        let near = self.numbers.between(1, width);
+        let left =
+            [255, 0 - (width as i16), 1 - (width as i16), -1 - (width as i16), -(near as i16)];
+        let left = left.map(|amount| amount as u8);
+        let amount = match self.numbers.below(4) {
+            0 => self.numbers.pick(&[0, 1, 127, 128, 255, any]),
+            1 => self.numbers.pick(&[1, width, width - 1, width + 1, near]),
+            2 => self.numbers.pick(&left),
+            _ => any,
+        };
+        self.stream.extend_from_slice(&[0x05, amount]);
+    }
+
+    /// A column or line near the first, near the last, or any.
+    pub fn place(&mut self, measure: u8) -> u8 {
+        let any = self.numbers.between(0, measure - 1);
+        32 + self.numbers.pick(&[0, 0, 1, any, measure - 2, measure - 1, measure - 1, measure])
+    }
+
+    pub fn place_cursor(&mut self) {
+        let column = self.place(self.width);
+        let line = self.place(self.height);
+        match self.numbers.below(4) {
+            0 => self.stream.extend_from_slice(&[0x14, column]),
+            1 => self.stream.extend_from_slice(&[0x06, line]),
+            _ => self.stream.extend_from_slice(&[0x1E, column, line]),
+        }
+    }
+
+    /// Moves at an edge or corner, under any flags.
+    pub fn moves_at_an_edge(&mut self) {
+        if self.numbers.once_in(2) {
+            self.flags();
+        }
+        self.place_cursor();
+        for _ in 0..1 + self.numbers.below(4) {
+            let printed = self.numbers.between(0x20, 0xFF);
+            let code = self.numbers.pick(&[0x08, 0x0A, 0x0D, 0x1C, 0x1F, printed]);
+            self.stream.push(code);
+        }
+    }
+
+    pub fn saves_and_restores(&mut self) {
+        for _ in 0..1 + self.numbers.below(3) {
+            let code = self.numbers.pick(&[0x01, 0x04]);
+            self.stream.push(code);
+            match self.numbers.below(3) {
+                0 => self.viewport(),
+                1 => self.mode_and_text(),
+                _ => self.flags(),
+            }
+        }
+    }
+
+    pub fn mode_and_text(&mut self) {
+        for _ in 0..1 + self.numbers.below(2) {
+            let code = self.numbers.pick(&[0x0E, 0x0F, 0x0F, 0x1B, 0x1B, 0x18]);
+            self.stream.push(code);
+        }
+        self.text(12);
+    }
+
+    pub fn erase_or_scroll(&mut self) {
+        self.place_cursor();
+        let code = self.numbers.pick(&[0x03, 0x1D, 0x1A, 0x13, 0x0B, 0x0C, 0x16, 0x17]);
+        self.stream.push(code);
+    }
+}

@@ -1,0 +1,98 @@
+//! The random comparison of a program with the reference.
+
+use crate::difference::first_difference;
+use crate::expected;
+use crate::generator::stream;
+use crate::pairs::{Pairs, ALL_PAIRS};
+use crate::program::{self, Fault};
+use crate::shorten::shorten;
+use std::ffi::OsStr;
+
+/// Of the pairs not reached no more than this many are named.
+const NAMED: usize = 10;
+
+/// Compares on `count` streams, prints what differs and a line at the
+/// end, and tells whether all is well.
+pub fn random(seed: u64, count: u64, console: &OsStr) -> bool {
+    let mut pairs = Pairs::none();
+    let mut differing: u64 = 0;
+    for number in 0..count {
+        let input = stream(seed, number);
+        let output = expected::whole(&input);
+        let cut = expected::cut(&input, |port, byte| pairs.note(port, byte));
+        if cut != output {
+            println!("seed {} stream {}: the reference differs when cut", seed, number);
+            differing += 1;
+            continue;
+        }
+        let printed = program::run(console, &input);
+        if let Err(fault @ (Fault::NotStarted(_) | Fault::TooSlow)) = &printed {
+            println!("seed {} stream {}: console {}", seed, number, fault);
+            if *fault == Fault::TooSlow {
+                println!("stream: {}", hex(&input));
+            }
+            println!("random: stopped after {} of {} streams, seed {}", number, count, seed);
+            return false;
+        }
+        if differs(&output, &printed) {
+            differing += 1;
+            if differing == 1 {
+                report(seed, number, &input, console);
+            }
+        }
+    }
+    let missing = pairs.missing();
+    if !missing.is_empty() {
+        let named: Vec<String> = missing
+            .iter()
+            .take(NAMED)
+            .map(|(code, flags)| format!("${:02X} with {}", code, flags))
+            .collect();
+        println!("not reached, codes with flags: {}", named.join(", "));
+    }
+    if differing > 0 {
+        println!("streams that differ: {}", differing);
+    }
+    println!(
+        "random: {} streams, {} of {} pairs of code and flags reached, seed {}",
+        count,
+        pairs.count(),
+        ALL_PAIRS,
+        seed
+    );
+    differing == 0 && missing.is_empty()
+}
+
+fn differs(output: &str, printed: &Result<Vec<u8>, Fault>) -> bool {
+    match printed {
+        Ok(printed) => printed != output.as_bytes(),
+        Err(_) => true,
+    }
+}
+
+/// Prints the shortest stream that shows a difference, and where.
+fn report(seed: u64, number: u64, input: &[u8], console: &OsStr) {
+    let shortest = shorten(input, |shorter| {
+        differs(&expected::whole(shorter), &program::run(console, shorter))
+    });
+    println!("seed {} stream {}: an output differs", seed, number);
+    println!("shortest stream: {}", hex(&shortest));
+    match program::run(console, &shortest) {
+        Err(fault) => println!("console {}", fault),
+        Ok(printed) => match first_difference(expected::whole(&shortest).as_bytes(), &printed) {
+            None => println!("it does not differ again: the console is not steady"),
+            Some(difference) => {
+                println!("output line {} should be {}", difference.line, difference.wanted);
+                println!("output line {} is        {}", difference.line, difference.given);
+            }
+        },
+    }
+}
+
+fn hex(bytes: &[u8]) -> String {
+    if bytes.is_empty() {
+        return "(empty)".to_string();
+    }
+    let digits: Vec<String> = bytes.iter().map(|byte| format!("{:02x}", byte)).collect();
+    digits.join(" ")
+}

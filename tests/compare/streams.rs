@@ -1,0 +1,106 @@
+//! The stored streams. Each folder holds an `input` and the `output`
+//! that it must give; to add a case, add a folder.
+
+use crate::difference::first_difference;
+use crate::expected;
+use crate::limits;
+use crate::program;
+use std::ffi::OsStr;
+use std::fs;
+use std::io;
+use std::path::{Path, PathBuf};
+
+/// Prints a line for each case that fails and one at the end, and tells
+/// whether all is well.
+pub fn streams(folder: &Path, console: &OsStr, bytewise: &OsStr) -> bool {
+    let programs = [("console", console), ("bytewise", bytewise)];
+    let mut passed = 0;
+    let mut failed = 0;
+    let mut count = |name: &str, faults: &[String]| {
+        if faults.is_empty() {
+            passed += 1;
+        } else {
+            failed += 1;
+            println!("{}: {}", name, faults.join("; "));
+        }
+    };
+    match case_folders(folder) {
+        Ok(cases) if cases.is_empty() => {
+            count("streams", &[format!("no case was found in {}", folder.display())]);
+        }
+        Ok(cases) => {
+            for case in cases {
+                let name = case.file_name().unwrap_or_default().to_string_lossy().into_owned();
+                count(&name, &stored_case(&case, &programs));
+            }
+        }
+        Err(error) => {
+            count("streams", &[format!("{} cannot be read: {}", folder.display(), error)]);
+        }
+    }
+    for case in limits::cases() {
+        count(case.name, &limits::faults(&case, &programs));
+    }
+    println!("streams: {} passed, {} failed", passed, failed);
+    failed == 0
+}
+
+/// The folders in a folder, by name. Other files there are no cases.
+fn case_folders(folder: &Path) -> io::Result<Vec<PathBuf>> {
+    let mut cases = Vec::new();
+    for entry in fs::read_dir(folder)? {
+        let path = entry?.path();
+        if path.is_dir() {
+            cases.push(path);
+        }
+    }
+    cases.sort();
+    Ok(cases)
+}
+
+/// What is wrong with one stored case.
+fn stored_case(case: &Path, programs: &[(&str, &OsStr)]) -> Vec<String> {
+    let mut faults = Vec::new();
+    let input = read(case, "input", &mut faults);
+    let output = read(case, "output", &mut faults);
+    let (input, output) = match (input, output) {
+        (Some(input), Some(output)) => (input, output),
+        _ => return faults,
+    };
+    let whole = expected::whole(&input);
+    if let Some(difference) = first_difference(&output, whole.as_bytes()) {
+        faults.push(format!("reference: {}", difference.brief()));
+    }
+    let cut = expected::cut(&input, |_, _| {});
+    if let Some(difference) = first_difference(&output, cut.as_bytes()) {
+        faults.push(format!("reference, one byte a write: {}", difference.brief()));
+    }
+    faults.extend(program_faults(&input, &output, programs));
+    faults
+}
+
+fn read(case: &Path, file: &str, faults: &mut Vec<String>) -> Option<Vec<u8>> {
+    match fs::read(case.join(file)) {
+        Ok(bytes) => Some(bytes),
+        Err(error) => {
+            faults.push(format!("its {} cannot be read: {}", file, error));
+            None
+        }
+    }
+}
+
+/// What is wrong with what each program prints for the input.
+pub fn program_faults(input: &[u8], output: &[u8], programs: &[(&str, &OsStr)]) -> Vec<String> {
+    let mut faults = Vec::new();
+    for (name, path) in programs {
+        match program::run(path, input) {
+            Err(fault) => faults.push(format!("{} {}", name, fault)),
+            Ok(printed) => {
+                if let Some(difference) = first_difference(output, &printed) {
+                    faults.push(format!("{}: {}", name, difference.brief()));
+                }
+            }
+        }
+    }
+    faults
+}

@@ -22,8 +22,8 @@ use Rattle.console.specs.declared.Judged.the-variants.{Accepted, Refused
 use Rattle.console.specs.declared.Status.{Status}
 use Rattle.console.specs.declared.Status.the-variants.{Done, ScreenLength, InvalidPort, BlockTooShort, BlockMismatch}
 use Rattle.console.specs.Calls.{Reply, refusal, written, blockReturned, blockRestored, judged, writeCall, returnCall, restoreCall, rowCall, judgement, answerOf, Replies}
-use Rattle.console.specs.Carry.{Carried}
-use Rattle.console.proofs.Carrying.{viewport-on-screen}
+use Rattle.executor.specs.Carry.{Carried}
+use Rattle.executor.proofs.Carrying.{viewport-on-screen}
 
 -- an answer by its parts
 by-answer : (reply : Reply) (r : Answer) (status : Status) (q : Port) (n : ℕ) (t b : List ℕ) → r ≡ answerOf status q n → status ≡ reply .status → q ≡ reply .port → n ≡ reply .count

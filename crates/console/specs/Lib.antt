@@ -1,4 +1,3 @@
 -- The plain calls of paper 01, with their refusals, which the contracts of this crate cite; and what is claimed of them.
 pub mod Calls
-pub mod Carry
 pub mod Theorems

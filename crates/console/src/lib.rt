@@ -1,5 +1,4 @@
 // The plain console of paper 01: what a host calls. No public function has a `requires`: every input, refused or not, has its equation.
-pub mod carry;
 
 use block::block_fits;
 use block::block_length;
@@ -8,7 +7,7 @@ use block::copy_out;
 use block::height;
 use block::row_start;
 use block::width;
-use carry::carry_stream;
+use executor::carry_stream;
 use port::Port;
 use port::state::fresh_port;
 use port::valid::valid_port;

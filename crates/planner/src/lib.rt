@@ -1,5 +1,5 @@
 // The port machine: from a port and a byte to a plan, which says what port comes next and what to draw.
-// No function here sees a screen: carrying a plan out is `console`'s work.
+// No function here sees a screen: carrying a plan out is `executor`'s work.
 pub mod saved;
 pub mod wait;
 

@@ -1,5 +1,5 @@
 // The screen of paper 01, 'Screen and port': 1,920 bytes, 24 lines of 80 columns, line 0 first, column 0 first.
-// An edit clears, scrolls or shifts one rectangle of it. These are the only loops over cells in the project.
+// An edit clears, scrolls or shifts one rectangle of it. No other crate changes cells, but for `block`, which copies them in.
 ghost use mathlib.Core.Path.{_≡_};
 ghost use Prim.Native.Nat.{_+_, _-_, _*_, _≤_, _<_, min};
 ghost use lib.ListN.{length, getD};

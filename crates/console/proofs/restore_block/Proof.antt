@@ -4,7 +4,7 @@ use lib.ListN.{length}
 use borrow.Author.Needs.{needs}
 use Rattle.block.proofs.Restores.{length-restored}
 use Rattle.console.proofs.Replying.{fit, fit-length, replies-refused, replies-restored, replies-mismatch}
-use Rattle.console.proofs.Carrying.{viewport-on-screen}
+use Rattle.executor.proofs.Carrying.{viewport-on-screen}
 use Rattle.console.specs.Calls.{blockRestored}
 use Rattle.console.proofs.restore_block.Statement.{statement}
 use Rattle.console.proofs.restore_block.Tie as tie

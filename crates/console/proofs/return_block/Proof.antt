@@ -2,7 +2,7 @@
 use native.Mathlib.Omega.{arith}
 use borrow.Author.Needs.{needs}
 use Rattle.console.proofs.Replying.{fit, block-size, replies-refused, replies-returned, replies-short}
-use Rattle.console.proofs.Carrying.{viewport-on-screen}
+use Rattle.executor.proofs.Carrying.{viewport-on-screen}
 use Rattle.console.specs.Calls.{blockReturned}
 use Rattle.console.proofs.return_block.Statement.{statement}
 use Rattle.console.proofs.return_block.Tie as tie

@@ -2,7 +2,7 @@
 use mathlib.Core.Path.{refl}
 use native.Mathlib.Omega.{arith}
 use borrow.Author.Needs.{needs}
-use Rattle.console.proofs.Carrying.{viewport-on-screen}
+use Rattle.executor.proofs.Carrying.{viewport-on-screen}
 use Rattle.console.proofs.Replying.{fit, row-refused, row-past, row-good, row-end}
 use Rattle.console.proofs.row_view.Statement.{statement}
 use Rattle.console.proofs.row_view.Tie as tie

@@ -1,7 +1,7 @@
 -- `console::write` meets its contract: refused before it starts, or what `carry_stream` leaves is what the definition draws. Assumes nothing.
 use borrow.Author.Needs.{needs}
 use Rattle.console.proofs.Replying.{fit, replies-refused, replies-written}
-use Rattle.console.proofs.Carrying.{same-size}
+use Rattle.executor.proofs.Carrying.{same-size}
 use Rattle.console.specs.Calls.{written}
 use Rattle.console.proofs.write.Statement.{statement}
 use Rattle.console.proofs.write.Tie as tie

@@ -1,13 +1,13 @@
--- `console::carry::print_spaces` meets its contract: the loop keeps that what is left of the spaces, done from here, is what was asked. Assumes nothing.
+-- `executor::print_spaces` meets its contract: the loop keeps that what is left of the spaces, done from here, is what was asked. Assumes nothing.
 use mathlib.Core.Path.{sym, ap, _∙_}
 use native.Mathlib.Omega.{arith}
 use lib.ListN.{length}
 use borrow.Author.Needs.{needs}
 use Rattle.view.specs.Plan.{changeList}
-use Rattle.console.proofs.Draws.{length-draw}
-use Rattle.console.proofs.Printing.{Spacing, spacing-starts, first-edit, second-edit, spacing-again, spacing-ends}
-use Rattle.console.proofs.carry.print_spaces.Statement.{statement}
-use Rattle.console.proofs.carry.print_spaces.Tie as tie
+use Rattle.executor.proofs.Draws.{length-draw}
+use Rattle.executor.proofs.Printing.{Spacing, spacing-starts, first-edit, second-edit, spacing-again, spacing-ends}
+use Rattle.executor.proofs.print_spaces.Statement.{statement}
+use Rattle.executor.proofs.print_spaces.Tie as tie
 
 abbrev Inv-loop : tie.InvT-loop
 Inv-loop screen₀ byte count at₀ left₀ screen at left = Spacing byte left₀ at₀ screen₀ left at screen

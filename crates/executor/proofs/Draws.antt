@@ -13,7 +13,7 @@ use Rattle.screen.proofs.Local.{length-edited}
 use Rattle.view.specs.declared.Change.{Change}
 use Rattle.view.specs.declared.Change.the-variants.{Nothing, Draw}
 use Rattle.view.specs.Plan.{changeList}
-use Rattle.console.specs.Carry.{AllOnScreen}
+use Rattle.executor.specs.Carry.{AllOnScreen}
 
 -- edits inside a rectangle on the screen are on the screen
 pub on-screen : (r : Rect) → r .right ≤ 79 → r .bottom ≤ 23 → (es : List Edit) → AllWithin r es → AllOnScreen es

@@ -1,4 +1,4 @@
--- `console::carry::carry_stream` meets its contract: the loop keeps that what is left of the stream, done from here, is what was asked; bells so far are at most the bytes so far. Assumes nothing.
+-- `executor::carry_stream` meets its contract: the loop keeps that what is left of the stream, done from here, is what was asked; bells so far are at most the bytes so far. Assumes nothing.
 use Prim.Native.Nat.{_-_}
 use mathlib.Core.Path.{_≡_, refl}
 use native.Mathlib.Omega.{arith}
@@ -6,9 +6,9 @@ use lib.ListN.{length, getD}
 use borrow.Author.Needs.{needs}
 use Rattle.charset.specs.Stored.{Agrees}
 use Rattle.port.proofs.Bells.{one-bell}
-use Rattle.console.proofs.Carrying.{Streaming, streaming-starts, streaming-again, streaming-ends, same-size}
-use Rattle.console.proofs.carry.carry_stream.Statement.{statement}
-use Rattle.console.proofs.carry.carry_stream.Tie as tie
+use Rattle.executor.proofs.Carrying.{Streaming, streaming-starts, streaming-again, streaming-ends, same-size}
+use Rattle.executor.proofs.carry_stream.Statement.{statement}
+use Rattle.executor.proofs.carry_stream.Tie as tie
 
 abbrev Inv-loop : tie.InvT-loop
 Inv-loop screen₀ bytes table port₀ bells₀ i₀ i-end screen port bells i = Streaming port₀ bytes screen₀ i port bells screen × (i-end ≡ length bytes) × Agrees table

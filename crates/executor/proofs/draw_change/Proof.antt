@@ -1,8 +1,8 @@
--- `console::carry::draw_change` meets its contract: an edit or none, as a list of at most one. Assumes nothing.
+-- `executor::draw_change` meets its contract: an edit or none, as a list of at most one. Assumes nothing.
 use borrow.Author.Needs.{needs}
-use Rattle.console.proofs.Draws.{drawings}
-use Rattle.console.proofs.carry.draw_change.Statement.{statement}
-use Rattle.console.proofs.carry.draw_change.Tie as tie
+use Rattle.executor.proofs.Draws.{drawings}
+use Rattle.executor.proofs.draw_change.Statement.{statement}
+use Rattle.executor.proofs.draw_change.Tie as tie
 
 enum-told : tie.Need-enum-told
 enum-told c = search needs

@@ -1,4 +1,4 @@
-// Carries plans out on the screen, one byte after another.
+// The executor: carries plans out on the screen, one byte after another.
 use charset::stored_byte;
 use charset::table_copy;
 use planner::Plan;
@@ -21,7 +21,7 @@ ghost use Rattle.port.specs.Step.{step};
 ghost use Rattle.port.specs.Stream.{stream};
 ghost use Rattle.view.specs.Plan.{changeList};
 ghost use Rattle.planner.specs.Plan.{carriedOut};
-ghost use Rattle.console.specs.Carry.{AllOnScreen, Drew, Carried};
+ghost use Rattle.executor.specs.Carry.{AllOnScreen, Drew, Carried};
 
 // The port that comes next, and the bells that were rung.
 pub struct Progress {

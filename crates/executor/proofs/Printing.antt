@@ -16,8 +16,8 @@ use Rattle.port.specs.Effect.{Effect, andThen}
 use Rattle.port.specs.Codes.{moveCursorRight, advanced, storeCell, printByte, print, modeOf, spaces}
 use Rattle.view.specs.declared.ViewPlan.{ViewPlan}
 use Rattle.view.specs.Plan.{changeList, planEffect}
-use Rattle.console.specs.Carry.{AllOnScreen, Drew}
-use Rattle.console.proofs.Draws.{front-on-screen, back-on-screen, length-draw}
+use Rattle.executor.specs.Carry.{AllOnScreen, Drew}
+use Rattle.executor.proofs.Draws.{front-on-screen, back-on-screen, length-draw}
 
 -- printing keeps the mode
 mode-kept : (v : View) (byte : ℕ) → modeOf (printByte v byte .view) ≡ modeOf v

@@ -1,8 +1,8 @@
--- `console::carry::carry_byte` meets its contract: the plan is the definition's step, whose edits lie inside the viewport. Assumes nothing.
+-- `executor::carry_byte` meets its contract: the plan is the definition's step, whose edits lie inside the viewport. Assumes nothing.
 use borrow.Author.Needs.{needs}
-use Rattle.console.proofs.Carrying.{viewport-on-screen, few-gathered, stored-as, plan-on-screen, byte-carried, same-size}
-use Rattle.console.proofs.carry.carry_byte.Statement.{statement}
-use Rattle.console.proofs.carry.carry_byte.Tie as tie
+use Rattle.executor.proofs.Carrying.{viewport-on-screen, few-gathered, stored-as, plan-on-screen, byte-carried, same-size}
+use Rattle.executor.proofs.carry_byte.Statement.{statement}
+use Rattle.executor.proofs.carry_byte.Tie as tie
 
 mode-of-requires : tie.Need-mode-of-requires
 mode-of-requires c κs = search needs

@@ -1,12 +1,12 @@
--- `console::carry::carry_out` meets its contract: two edits and then the spaces are the plan's edits in their order, which all lie on the screen. Assumes nothing.
+-- `executor::carry_out` meets its contract: two edits and then the spaces are the plan's edits in their order, which all lie on the screen. Assumes nothing.
 use mathlib.Core.Path.{ap, _∙_}
 use lib.ListN.{length}
 use borrow.Author.Needs.{needs}
 use Rattle.view.specs.Plan.{changeList}
-use Rattle.console.proofs.Draws.{length-draw}
-use Rattle.console.proofs.Carrying.{plan-first, plan-second, plan-spaces, plan-carried, same-size, stored-as}
-use Rattle.console.proofs.carry.carry_out.Statement.{statement}
-use Rattle.console.proofs.carry.carry_out.Tie as tie
+use Rattle.executor.proofs.Draws.{length-draw}
+use Rattle.executor.proofs.Carrying.{plan-first, plan-second, plan-spaces, plan-carried, same-size, stored-as}
+use Rattle.executor.proofs.carry_out.Statement.{statement}
+use Rattle.executor.proofs.carry_out.Tie as tie
 
 draw-change-requires : tie.Need-draw-change-requires
 draw-change-requires c κs = let start = c .before .before in (plan-first (start .args .plan) (start .pre .0), start .pre .2)

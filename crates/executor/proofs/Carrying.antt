@@ -27,8 +27,8 @@ use Rattle.port.proofs.Bells.{one-bell}
 use Rattle.view.specs.Plan.{changeList}
 use Rattle.planner.specs.declared.Plan.{Plan}
 use Rattle.planner.specs.Plan.{carriedOut}
-use Rattle.console.specs.Carry.{AllOnScreen, Drew, Carried}
-use Rattle.console.proofs.Draws.{on-screen, front-on-screen, back-on-screen, length-draw}
+use Rattle.executor.specs.Carry.{AllOnScreen, Drew, Carried}
+use Rattle.executor.proofs.Draws.{on-screen, front-on-screen, back-on-screen, length-draw}
 
 -- a plan's parts lie on the screen where all of it does
 module _ (m : Plan) (all : AllOnScreen (carriedOut m .edits)) where

@@ -1,0 +1,2 @@
+-- What it is to carry a plan or a stream out on a screen.
+pub mod Carry

@@ -1,91 +1,137 @@
--- A byte rings a bell exactly where it is $07 and no parameter. Assumes nothing.
+-- What a byte rings, and what waits after it, are what waiting and gathering alone say. Assumes nothing.
 use Prim.Native.Nat.{ℕ, _+_, _≤_}
-use mathlib.Core.Path.{_≡_, refl, _∙_}
+use mathlib.Core.Path.{_≡_, refl, ap, _∙_}
 use mathlib.Core.Bool.{Bool, true, false, cond}
+use mathlib.Core.List.{List, [], _∷_}
+use native.Mathlib.Nat.{zero-add}
 use native.Mathlib.Omega.{arith}
 use lib.Dec.{ltb, eqb}
 use borrow.Author.Tests.{eqb-true}
 use Rattle.screen.proofs.Tests.{by-test}
 use Rattle.port.specs.declared.Port.{Port}
 use Rattle.port.specs.Valid.{parameters}
-use Rattle.port.specs.Step.{Outcome, obey, perform, parameter, step}
+use Rattle.port.specs.Step.{Outcome, becomesPort, gatherOne, pop, obey, perform, parameter, step}
+use Rattle.port.specs.Stream.{stream}
+use Rattle.port.specs.Commands.{Wait, wants, nextWait, commandCodes, occurrences, waitOf}
 
 -- what a code rings
-abbrev pub rings : ℕ → ℕ
+abbrev rings : ℕ → ℕ
 rings code = cond (eqb code 7) 1 0
 
+-- none waits
+abbrev none : Wait
+none = record { code = 0; count = 0 }
+
+-- what waits after a code
+abbrev after : Port → ℕ → Wait
+after p code = cond (ltb 0 (parameters code)) (record { code = code; count = 0 }) (waitOf p)
+
 module _ (p : Port) (code : ℕ) where
-  Rings : Outcome → Type 0
-  Rings m = m .bells ≡ rings code
+  record Obeyed (m : Outcome) : Type 0 where
+    rung : m .bells ≡ rings code
+    waits : waitOf (m .port) ≡ after p code
 
-  -- another code's arm
-  other : (k : ℕ) → 0 ≡ rings k → eqb code k ≡ true → 0 ≡ rings code
-  other k e t = e ∙ rw (eqb-true code k t)
+  arm : (k : ℕ) (m : Outcome) → m .bells ≡ rings k → waitOf (m .port) ≡ after p k → eqb code k ≡ true → Obeyed m
+  arm k m r w t = let same = eqb-true code k t in record { rung = r ∙ rw same; waits = w ∙ rw same }
 
-  obey-rings : obey p code .bells ≡ rings code
-  unfolding obey Rings
-  obey-rings =
-      by-test Rings (eqb code 0x00) (other 0x00 refl) λ _.
-      by-test Rings (eqb code 0x01) (other 0x01 refl) λ _.
-      by-test Rings (eqb code 0x02) (other 0x02 refl) λ _.
-      by-test Rings (eqb code 0x03) (other 0x03 refl) λ _.
-      by-test Rings (eqb code 0x04) (other 0x04 refl) λ _.
-      by-test Rings (eqb code 0x05) (other 0x05 refl) λ _.
-      by-test Rings (eqb code 0x06) (other 0x06 refl) λ _.
-      by-test Rings (eqb code 0x07) (λ t. rw t) λ none.
-      let quiet : 0 ≡ rings code = rw none in
-      by-test Rings (eqb code 0x08) (λ _. quiet) λ _.
-      by-test Rings (eqb code 0x09) (λ _. quiet) λ _.
-      by-test Rings (eqb code 0x0a) (λ _. quiet) λ _.
-      by-test Rings (eqb code 0x0b) (λ _. quiet) λ _.
-      by-test Rings (eqb code 0x0c) (λ _. quiet) λ _.
-      by-test Rings (eqb code 0x0d) (λ _. quiet) λ _.
-      by-test Rings (eqb code 0x0e) (λ _. quiet) λ _.
-      by-test Rings (eqb code 0x0f) (λ _. quiet) λ _.
-      by-test Rings (eqb code 0x10) (λ _. quiet) λ _.
-      by-test Rings (eqb code 0x11) (λ _. quiet) λ _.
-      by-test Rings (eqb code 0x12) (λ _. quiet) λ _.
-      by-test Rings (eqb code 0x13) (λ _. quiet) λ _.
-      by-test Rings (eqb code 0x14) (λ _. quiet) λ _.
-      by-test Rings (eqb code 0x15) (λ _. quiet) λ _.
-      by-test Rings (eqb code 0x16) (λ _. quiet) λ _.
-      by-test Rings (eqb code 0x17) (λ _. quiet) λ _.
-      by-test Rings (eqb code 0x18) (λ _. quiet) λ _.
-      by-test Rings (eqb code 0x19) (λ _. quiet) λ _.
-      by-test Rings (eqb code 0x1a) (λ _. quiet) λ _.
-      by-test Rings (eqb code 0x1b) (λ _. quiet) λ _.
-      by-test Rings (eqb code 0x1c) (λ _. quiet) λ _.
-      by-test Rings (eqb code 0x1d) (λ _. quiet) λ _.
-      by-test Rings (eqb code 0x1e) (λ _. quiet) λ _.
-      by-test Rings (eqb code 0x1f) (λ _. quiet) (λ _. quiet)
+  obeyed : Obeyed (obey p code)
+  unfolding obey parameters pop
+  obeyed =
+      by-test Obeyed (eqb code 0x00) (arm 0x00 _ refl refl) λ _.
+      by-test Obeyed (eqb code 0x01) (arm 0x01 _ refl refl) λ _.
+      by-test Obeyed (eqb code 0x02) (arm 0x02 _ refl refl) λ n02.
+      by-test Obeyed (eqb code 0x03) (arm 0x03 _ refl refl) λ _.
+      by-test Obeyed (eqb code 0x04) (arm 0x04 _ refl refl) λ _.
+      by-test Obeyed (eqb code 0x05) (arm 0x05 _ refl refl) λ n05.
+      by-test Obeyed (eqb code 0x06) (arm 0x06 _ refl refl) λ n06.
+      by-test Obeyed (eqb code 0x07) (arm 0x07 _ refl refl) λ n07.
+      by-test Obeyed (eqb code 0x08) (arm 0x08 _ refl refl) λ _.
+      by-test Obeyed (eqb code 0x09) (arm 0x09 _ refl refl) λ _.
+      by-test Obeyed (eqb code 0x0a) (arm 0x0a _ refl refl) λ _.
+      by-test Obeyed (eqb code 0x0b) (arm 0x0b _ refl refl) λ _.
+      by-test Obeyed (eqb code 0x0c) (arm 0x0c _ refl refl) λ _.
+      by-test Obeyed (eqb code 0x0d) (arm 0x0d _ refl refl) λ _.
+      by-test Obeyed (eqb code 0x0e) (arm 0x0e _ refl refl) λ _.
+      by-test Obeyed (eqb code 0x0f) (arm 0x0f _ refl refl) λ _.
+      by-test Obeyed (eqb code 0x10) (arm 0x10 _ refl refl) λ n10.
+      by-test Obeyed (eqb code 0x11) (arm 0x11 _ refl refl) λ _.
+      by-test Obeyed (eqb code 0x12) (arm 0x12 _ refl refl) λ _.
+      by-test Obeyed (eqb code 0x13) (arm 0x13 _ refl refl) λ _.
+      by-test Obeyed (eqb code 0x14) (arm 0x14 _ refl refl) λ n14.
+      by-test Obeyed (eqb code 0x15) (arm 0x15 _ refl refl) λ n15.
+      by-test Obeyed (eqb code 0x16) (arm 0x16 _ refl refl) λ _.
+      by-test Obeyed (eqb code 0x17) (arm 0x17 _ refl refl) λ _.
+      by-test Obeyed (eqb code 0x18) (arm 0x18 _ refl refl) λ _.
+      by-test Obeyed (eqb code 0x19) (arm 0x19 _ refl refl) λ _.
+      by-test Obeyed (eqb code 0x1a) (arm 0x1a _ refl refl) λ _.
+      by-test Obeyed (eqb code 0x1b) (arm 0x1b _ refl refl) λ _.
+      by-test Obeyed (eqb code 0x1c) (arm 0x1c _ refl refl) λ _.
+      by-test Obeyed (eqb code 0x1d) (arm 0x1d _ refl refl) λ _.
+      by-test Obeyed (eqb code 0x1e) (arm 0x1e _ refl refl) λ n1e.
+      by-test Obeyed (eqb code 0x1f) (arm 0x1f _ refl refl) λ _.
+      record { rung = simp n07; waits = simp (n02, n05, n06, n10, n14, n15, n1e) }
 
 -- a parameter rings nothing
-Quiet : Outcome → Type 0
-Quiet m = m .bells ≡ 0
+record Quiet (w : Wait) (m : Outcome) : Type 0 where
+  rung : m .bells ≡ 0
+  waits : waitOf (m .port) ≡ w
 
-perform-quiet : (p : Port) (code b : ℕ) → perform p code b .bells ≡ 0
-unfolding perform Quiet
-perform-quiet p code b =
-    by-test Quiet (eqb code 0x02) (λ _. refl) λ _.
-    by-test Quiet (eqb code 0x05) (λ _. refl) λ _.
-    by-test Quiet (eqb code 0x06) (λ _. refl) λ _.
-    by-test Quiet (eqb code 0x10) (λ _. refl) λ _.
-    by-test Quiet (eqb code 0x14) (λ _. refl) λ _.
-    by-test Quiet (eqb code 0x15) (λ _. refl) (λ _. refl)
+performed : (p : Port) (code b : ℕ) → Quiet none (perform p code b)
+unfolding perform
+performed p code b =
+    by-test (Quiet none) (eqb code 0x02) (λ _. record { rung = refl; waits = refl }) λ _.
+    by-test (Quiet none) (eqb code 0x05) (λ _. record { rung = refl; waits = refl }) λ _.
+    by-test (Quiet none) (eqb code 0x06) (λ _. record { rung = refl; waits = refl }) λ _.
+    by-test (Quiet none) (eqb code 0x10) (λ _. record { rung = refl; waits = refl }) λ _.
+    by-test (Quiet none) (eqb code 0x14) (λ _. record { rung = refl; waits = refl }) λ _.
+    by-test (Quiet none) (eqb code 0x15) (λ _. record { rung = refl; waits = refl }) (λ _. record { rung = refl; waits = refl })
 
-parameter-quiet : (p : Port) (b : ℕ) → parameter p b .bells ≡ 0
-unfolding parameter Quiet
-parameter-quiet p b = by-test Quiet (ltb (p .count + 1) (parameters (p .waiting))) (λ _. refl) (λ _. perform-quiet p (p .waiting) b)
+-- what waits after a parameter
+abbrev gathering : Port → Wait
+gathering p = cond (ltb (p .count + 1) (parameters (p .waiting))) (record { code = p .waiting; count = p .count + 1 }) none
 
-pub step-rings : (p : Port) (b : ℕ) → step p b .bells ≡ cond (ltb 0 (parameters (p .waiting))) 0 (rings b)
-unfolding step
-step-rings p b = choose (ltb 0 (parameters (p .waiting)))
+gathered : (p : Port) (b : ℕ) → Quiet (gathering p) (parameter p b)
+unfolding parameter
+gathered p b = choose (ltb (p .count + 1) (parameters (p .waiting)))
   where
-    choose : (t : Bool) → cond t (parameter p b) (obey p b) .bells ≡ cond t 0 (rings b)
-    choose true = parameter-quiet p b
-    choose false = obey-rings p b
+    choose : (t : Bool) → Quiet (cond t (record { code = p .waiting; count = p .count + 1 }) none) (cond t (becomesPort (gatherOne p b)) (perform p (p .waiting) b))
+    choose true = record { rung = refl; waits = refl }
+    choose false = performed p (p .waiting) b
 
+-- a byte
+record Stepped (p : Port) (b : ℕ) (m : Outcome) : Type 0 where
+  rung : m .bells ≡ cond (wants (waitOf p)) 0 (rings b)
+  waits : waitOf (m .port) ≡ nextWait (waitOf p) b
+
+stepped : (p : Port) (b : ℕ) → Stepped p b (step p b)
+unfolding step nextWait
+stepped p b = record { rung = rung-by (wants (waitOf p)); waits = waits-by (wants (waitOf p)) }
+  where
+    rung-by : (t : Bool) → cond t (parameter p b) (obey p b) .bells ≡ cond t 0 (rings b)
+    rung-by true = gathered p b .rung
+    rung-by false = obeyed p b .rung
+
+    waits-by : (t : Bool) → waitOf (cond t (parameter p b) (obey p b) .port) ≡ cond t (gathering p) (after p b)
+    waits-by true = gathered p b .waits
+    waits-by false = obeyed p b .waits
+
+-- a byte rings at most one bell
 pub one-bell : (p : Port) (b : ℕ) → step p b .bells ≤ 1
 one-bell p b =
-    rw (step-rings p b)
-    (by-test (λ (n : ℕ). n ≤ 1) (ltb 0 (parameters (p .waiting))) (λ _. omega arith) (λ _. by-test (λ (n : ℕ). n ≤ 1) (eqb b 7) (λ _. omega arith) (λ _. omega arith)))
+    rw (stepped p b .rung)
+    (by-test (λ (n : ℕ). n ≤ 1) (wants (waitOf p)) (λ _. omega arith) (λ _. by-test (λ (n : ℕ). n ≤ 1) (eqb b 7) (λ _. omega arith) (λ _. omega arith)))
+
+-- a stream rings as often as $07 is among its command codes
+pub stream-bells : (p : Port) (bytes : List ℕ) → stream p bytes .bells ≡ occurrences 7 (commandCodes (waitOf p) bytes)
+unfolding stream commandCodes occurrences
+stream-bells p [] = refl
+stream-bells p (b ∷ bytes) =
+    (λ i. stepped p b .rung i + (stream-bells (step p b .port) bytes ∙ ap (λ (w : Wait). occurrences 7 (commandCodes w bytes)) (stepped p b .waits)) i)
+    ∙ choose (wants (waitOf p))
+  where
+    rest : List ℕ
+    rest = commandCodes (nextWait (waitOf p) b) bytes
+
+    choose : (t : Bool) → cond t 0 (rings b) + occurrences 7 rest ≡ occurrences 7 (cond t rest (b ∷ rest))
+    choose true = zero-add _
+    choose false = refl

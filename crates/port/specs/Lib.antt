@@ -5,4 +5,5 @@ pub mod Effect
 pub mod Codes
 pub mod Step
 pub mod Stream
+pub mod Commands
 pub mod Keeps

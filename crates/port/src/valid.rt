@@ -49,7 +49,7 @@ fn valid_view(home: Rect, v: View) -> bool
     (legal(v.viewport) & within(v.viewport, home)) & cursor_inside(v)
 }
 
-fn zero_rect(r: Rect) -> bool
+pub fn zero_rect(r: Rect) -> bool
     ensures { λ b. ⌜ b ≡ rules.zeroRect r ⌝ }
 {
     ((r.left == 0) & (r.top == 0)) & ((r.right == 0) & (r.bottom == 0))
@@ -85,7 +85,7 @@ fn used_or_zero(gathered: [u8; 4], count: u8, i: u8) -> bool
     (i < count) | (gathered[place] == 0)
 }
 
-fn unused_zero(gathered: [u8; 4], count: u8) -> bool
+pub fn unused_zero(gathered: [u8; 4], count: u8) -> bool
     ensures { λ b. ⌜ b ≡ rules.unusedZero gathered count ⌝ }
 {
     (used_or_zero(gathered, count, 0) & used_or_zero(gathered, count, 1))

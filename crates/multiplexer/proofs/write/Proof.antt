@@ -1,0 +1,57 @@
+-- `multiplexer::write` meets its contract: refused before it starts, or the console's reply to the slot's port, put back. Assumes nothing.
+use native.Mathlib.Omega.{arith}
+use lib.ListN.{length}
+use borrow.Author.Needs.{needs}
+use Rattle.console.specs.Calls as console
+use Rattle.multiplexer.proofs.Replying.{found-on, client-refused, client-served}
+use Rattle.multiplexer.proofs.write.Statement.{statement}
+use Rattle.multiplexer.proofs.write.Tie as tie
+
+locate-on-requires : tie.Need-locate-on-requires
+locate-on-requires c κs = search needs
+
+enum-known-located : tie.Need-enum-known-located
+enum-known-located c = search needs
+
+answer-with-requires : tie.Need-answer-with-requires
+answer-with-requires c κs = search needs
+
+enum-known-located-2 : tie.Need-enum-known-located-2
+enum-known-located-2 c = search needs
+
+mul-slot : tie.Need-mul-slot
+mul-slot c = let below = found-on (c .before .before .before .before .before .before .args .t1) (length (c .before .before .before .before .before .before .args .screen .now)) (c .before .before .before .before .before .before .args .client) (c .before .located2 .given .0 .0) (c .before .before .before .locate-on .result) (c .before .before .before .locate-on .ensures) (c .before .located2 .given .1) .1 .below in omega arith
+
+element-copy-out-slot : tie.Need-element-copy-out-slot
+element-copy-out-slot c = found-on (c .before .before .before .before .before .before .args .t1) (length (c .before .before .before .before .before .before .args .screen .now)) (c .before .before .before .before .before .before .args .client) (c .before .located2 .given .0 .0) (c .before .before .before .locate-on .result) (c .before .before .before .locate-on .ensures) (c .before .located2 .given .1) .1 .below
+
+write-requires : tie.Need-write-requires
+write-requires c κs = search needs
+
+relay-requires : tie.Need-relay-requires
+relay-requires c κs = found-on (c .before .before .before .before .before .before .before .before .before .before .before .before .args .t1) (length (c .before .before .before .before .before .before .before .before .before .before .before .before .args .screen .now)) (c .before .before .before .before .before .before .before .before .before .before .before .before .args .client) (c .before .before .before .before .before .before .before .located2 .given .0 .0) (c .before .before .before .before .before .before .before .before .before .locate-on .result) (c .before .before .before .before .before .before .before .before .before .locate-on .ensures) (c .before .before .before .before .before .before .before .located2 .given .1) .1 .below
+
+returns : tie.Need-returns
+returns c = client-refused console.written (c .before .before .before .before .before .before .before .args .t1) (c .before .before .before .before .before .before .before .args .screen .now) (c .before .before .before .before .before .before .before .args .client) _ (c .before .before .before .before .locate-on .result) (c .before .before .before .before .locate-on .ensures) (c .before .before .located .given .0 .0) _ (c .before .before .located .given .1) (c .answer-with .ensures)
+
+same-length : tie.Need-same-length
+same-length c = search needs
+
+returns-2 : tie.Need-returns-2
+returns-2 c = client-served console.written (c .before .before .before .before .before .before .before .before .before .before .before .before .before .args .t1) (c .before .before .before .before .before .before .before .before .before .before .before .before .before .args .screen .now) (c .before .before .before .before .before .before .before .before .before .before .before .before .before .args .client) _ (c .before .before .before .before .before .before .before .before .before .before .locate-on .result) (c .before .before .before .before .before .before .before .before .before .before .locate-on .ensures) (c .before .before .before .before .before .before .before .before .located2 .given .0 .0) _ _ _ _ (c .before .before .before .before .before .before .before .before .located2 .given .1) (c .before .before .before .write .ensures) (c .relay .ensures)
+
+pub write-spec : {M : Type 1} → statement M
+write-spec =
+    tie.close
+    (tie.spec
+    locate-on-requires
+    enum-known-located
+    answer-with-requires
+    enum-known-located-2
+    mul-slot
+    element-copy-out-slot
+    write-requires
+    relay-requires
+    returns
+    same-length
+    returns-2)

@@ -46,8 +46,9 @@ impl Maker {
         }
     }
 
-    /// A viewport that is ignored: one parameter out of range, or the last
-    /// column or line not after the first.
+    /// A viewport that is ignored: one parameter out of range, the last
+    /// column or line not after the first, or all of it past one of
+    /// home's edges.
     pub fn bad_viewport(&mut self) {
         let (width, height) = (self.width, self.height);
         self.viewport();
@@ -55,11 +56,13 @@ impl Maker {
         self.height = height;
         let start = self.stream.len() - 4;
         let (left, top) = (self.stream[start], self.stream[start + 1]);
-        match self.numbers.below(6) {
+        match self.numbers.below(8) {
             0 => self.stream[start + 2] = left,
             1 => self.stream[start + 3] = top,
             2 => self.stream.swap(start, start + 2),
             3 => self.stream.swap(start + 1, start + 3),
+            4 => self.past_an_edge(start, self.home.left, self.home.right),
+            5 => self.past_an_edge(start + 1, self.home.top, self.home.bottom),
             _ => {
                 let place = start + self.numbers.below(4) as usize;
                 let low = self.numbers.between(0x00, 0x1F);
@@ -67,6 +70,18 @@ impl Maker {
                 self.stream[place] = self.numbers.pick(&[0x1F, 0x80, low, high]);
             }
         }
+    }
+
+    /// Two parameters, the first at `place`, that stand in order but mean
+    /// the same edge of home.
+    fn past_an_edge(&mut self, place: usize, home_first: u8, home_last: u8) {
+        let (first, last) = if home_first > 0 && self.numbers.once_in(2) {
+            self.numbers.stretch(0, home_first, home_first)
+        } else {
+            self.numbers.stretch(home_last, 95, 95)
+        };
+        self.stream[place] = first + 32;
+        self.stream[place + 2] = last + 32;
     }
 
     /// A code with parameters that are out of range or at its ends, look

@@ -1,5 +1,8 @@
 //! Where two outputs differ.
 
+/// How many bytes are shown where it is to be short.
+const BRIEF: usize = 24;
+
 /// The first line that differs, counted from 1, as it should be and as
 /// it is, in words where there is no such line.
 #[derive(Clone, Debug, PartialEq, Eq)]
@@ -38,6 +41,23 @@ fn shown(line: &[u8]) -> String {
     let text: String =
         text.iter().flat_map(|&byte| std::ascii::escape_default(byte)).map(char::from).collect();
     text + ending
+}
+
+/// The bytes by their numbers.
+pub fn hex(bytes: &[u8]) -> String {
+    if bytes.is_empty() {
+        return "(empty)".to_string();
+    }
+    let digits: Vec<String> = bytes.iter().map(|byte| format!("{:02x}", byte)).collect();
+    digits.join(" ")
+}
+
+/// The first bytes by their numbers, and two dots if there are more.
+pub fn brief_hex(bytes: &[u8]) -> String {
+    if bytes.len() <= BRIEF {
+        return hex(bytes);
+    }
+    hex(&bytes[..BRIEF]) + " .."
 }
 
 impl Difference {

@@ -2,9 +2,10 @@
 
 use crate::numbers::Numbers;
 use crate::pairs::ALL_PAIRS;
-use crate::pieces::Maker;
+use crate::pieces::{Maker, SHOW};
 
-/// The stream with this number; the same seed gives the same one.
+/// The stream with this number; the same seed gives the same one. It may
+/// end in a command cut off, or show what the port hides or has saved.
 ///
 /// A stream in pieces has the pair of code and flags of its number modulo
 /// 1024. Of the numbers n and n + 1024 at least one is made in pieces, so
@@ -16,8 +17,11 @@ pub fn stream(seed: u64, number: u64) -> Vec<u8> {
         5 => mostly_codes(&mut maker),
         _ => in_pieces(&mut maker, number % ALL_PAIRS as u64),
     }
-    if maker.numbers.once_in(4) {
-        maker.command_cut_off();
+    match maker.numbers.below(4) {
+        0 => maker.command_cut_off(),
+        1 => maker.stream.extend_from_slice(&SHOW),
+        2 => maker.stream.extend([0x04].iter().chain(&SHOW)),
+        _ => {}
     }
     maker.stream
 }
@@ -29,7 +33,7 @@ fn plain_bytes(maker: &mut Maker) {
     }
 }
 
-fn mostly_codes(maker: &mut Maker) {
+pub fn mostly_codes(maker: &mut Maker) {
     for _ in 0..maker.numbers.below(120) {
         let byte = if maker.numbers.once_in(3) {
             maker.numbers.byte()
@@ -71,7 +75,8 @@ fn in_pieces(maker: &mut Maker, pair: u64) {
     }
 }
 
-fn piece(maker: &mut Maker) {
+/// One piece after which no command waits, if none waited before.
+pub fn piece(maker: &mut Maker) {
     match maker.numbers.below(20) {
         0 | 1 => maker.text(30),
         2 => maker.flags(),

@@ -2,8 +2,8 @@
 //! not stored.
 
 use crate::expected::{self, INPUT_LIMIT};
-use crate::streams::program_faults;
-use std::ffi::OsStr;
+use crate::streams::output_faults;
+use crate::subjects::Subject;
 
 pub struct Case {
     pub name: &'static str,
@@ -35,7 +35,7 @@ fn command_past_the_limit() -> Vec<u8> {
 
 /// What is wrong: the last byte that is read must show, and a byte past
 /// the limit must not, though it would.
-pub fn faults(case: &Case, programs: &[(&str, &OsStr)]) -> Vec<String> {
+pub fn faults(case: &Case, subjects: &[Subject]) -> Vec<String> {
     let output = expected::whole(&case.input);
     let mut faults = Vec::new();
     if case.input.len() > INPUT_LIMIT {
@@ -48,6 +48,6 @@ pub fn faults(case: &Case, programs: &[(&str, &OsStr)]) -> Vec<String> {
     if expected::cut(&case.input, |_, _| {}) != output {
         faults.push("reference: one byte a write gives another output".to_string());
     }
-    faults.extend(program_faults(&case.input, output.as_bytes(), programs));
+    faults.extend(output_faults(&case.input, output.as_bytes(), subjects));
     faults
 }

@@ -1,13 +1,16 @@
-//! Compares a console program with the reference program, on stored
-//! streams and on random ones.
+//! Compares the console program and the boundary library with the
+//! reference program, on stored streams, on random ones, and on random
+//! scripts of wall calls.
 //!
-//! Build: rustc --edition 2021 -O -o OUT tests/compare/main.rs
-//! Run:   OUT streams DIR CONSOLE BYTEWISE
+//! Build: rustc --edition 2021 -O -L native=target/staticlib
+//!        -l static=boundary -o OUT tests/compare/main.rs
+//! Run:   OUT streams DIR CONSOLE
 //!        OUT random SEED COUNT CONSOLE
+//!        OUT scripts SEED COUNT
 //!
-//! CONSOLE and BYTEWISE are programs that read a stream from standard
-//! input and print the screen, cursor and bells. The exit status is 0 if
-//! all is well, 1 if something failed, 2 if the arguments are wrong.
+//! CONSOLE is a program that reads a stream from standard input and
+//! prints the screen, cursor and bells. The exit status is 0 if all is
+//! well, 1 if something failed, 2 if the arguments are wrong.
 
 #[path = "../../reference/src/block.rs"]
 mod block;
@@ -19,34 +22,37 @@ mod console;
 mod cursor;
 #[path = "../../reference/src/port.rs"]
 mod port;
-#[allow(dead_code)]
 #[path = "../../reference/src/script.rs"]
 mod script;
 #[path = "../../reference/src/stored.rs"]
 mod stored;
-#[allow(dead_code)]
 #[path = "../../reference/src/wall.rs"]
 mod wall;
 
 mod commands;
 mod difference;
+mod edges;
 mod expected;
 mod generator;
+mod library;
 mod limits;
 mod numbers;
 mod pairs;
 mod pieces;
 mod program;
 mod random;
+mod scripts;
 mod shorten;
 mod streams;
+mod subjects;
 
 use std::ffi::{OsStr, OsString};
 use std::path::Path;
 use std::process::exit;
 
-const USAGE: &str = "usage: compare streams DIR CONSOLE BYTEWISE
-       compare random SEED COUNT CONSOLE";
+const USAGE: &str = "usage: compare streams DIR CONSOLE
+       compare random SEED COUNT CONSOLE
+       compare scripts SEED COUNT";
 
 fn main() {
     let arguments: Vec<OsString> = std::env::args_os().skip(1).collect();
@@ -63,17 +69,14 @@ fn main() {
 /// Runs the command asked for and tells whether all is well; none if the
 /// arguments are not understood.
 fn asked(arguments: &[OsString]) -> Option<bool> {
-    if arguments.len() != 4 {
-        return None;
-    }
-    if arguments[0] == "streams" {
-        Some(streams::streams(Path::new(&arguments[1]), &arguments[2], &arguments[3]))
-    } else if arguments[0] == "random" {
-        let seed = number(&arguments[1])?;
-        let count = number(&arguments[2])?;
-        Some(random::random(seed, count, &arguments[3]))
-    } else {
-        None
+    let (part, arguments) = arguments.split_first()?;
+    match (part.to_str()?, arguments) {
+        ("streams", [folder, console]) => Some(streams::streams(Path::new(folder), console)),
+        ("random", [seed, count, console]) => {
+            Some(random::random(number(seed)?, number(count)?, console))
+        }
+        ("scripts", [seed, count]) => Some(scripts::scripts(number(seed)?, number(count)?)),
+        _ => None,
     }
 }
 

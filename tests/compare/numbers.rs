@@ -37,6 +37,22 @@ impl Numbers {
         self.between(0, 255)
     }
 
+    pub fn bytes(&mut self, length: usize) -> Vec<u8> {
+        (0..length).map(|_| self.byte()).collect()
+    }
+
+    /// A first and a last place from `start` to `end`, the last 1 to
+    /// `most` places after the first; at either end now and then.
+    pub fn stretch(&mut self, start: u8, end: u8, most: u8) -> (u8, u8) {
+        let distance = self.between(1, most.min(end - start));
+        let first = match self.below(6) {
+            0 => start,
+            1 => end - distance,
+            _ => self.between(start, end - distance),
+        };
+        (first, first + distance)
+    }
+
     /// True once in so many times.
     pub fn once_in(&mut self, times: u64) -> bool {
         self.below(times) == 0

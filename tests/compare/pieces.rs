@@ -1,10 +1,21 @@
 //! The pieces that random streams are made of.
 
 use crate::numbers::Numbers;
+use crate::port::{Rectangle, WHOLE_SCREEN};
+
+/// Brings what a port hides to the screen: it ends a command that waits
+/// and prints at the cursor in the mode in force. What follows goes by the
+/// five flags, the last by MouseText.
+pub const SHOW: [u8; 17] = [
+    0x41, 0x41, 0x41, 0x41, 0x41, 0x0D, 0x42, 0x1E, 0x7F, 0x7F, 0x43, 0x44, 0x10, 0x22, 0x45, 0x0F,
+    0x46,
+];
 
 pub struct Maker {
     pub numbers: Numbers,
     pub stream: Vec<u8>,
+    /// The home of the port that the stream is for.
+    pub home: Rectangle,
     /// The measures of the viewport set last, as a guess for parameters.
     pub width: u8,
     pub height: u8,
@@ -12,7 +23,14 @@ pub struct Maker {
 
 impl Maker {
     pub fn new(numbers: Numbers) -> Maker {
-        Maker { numbers, stream: Vec::new(), width: 80, height: 24 }
+        Maker { numbers, stream: Vec::new(), home: WHOLE_SCREEN, width: 80, height: 24 }
+    }
+
+    /// From here on the stream is for a port with this home and viewport.
+    pub fn aim(&mut self, home: Rectangle, viewport: Rectangle) {
+        self.home = home;
+        self.width = viewport.right - viewport.left + 1;
+        self.height = viewport.bottom - viewport.top + 1;
     }
 
     /// Some printing codes, fewer than `most`.
@@ -26,7 +44,7 @@ impl Maker {
     /// Every cell of the screen, or of the viewport if one is set, printed
     /// without scrolling.
     pub fn text_everywhere(&mut self) {
-        self.stream.extend_from_slice(&[0x15, 0x17]);
+        self.stream.extend_from_slice(&[0x19, 0x15, 0x17]);
         for _ in 0..self.width as usize * self.height as usize {
             let code = self.numbers.between(0x21, 0xFF);
             self.stream.push(code);
@@ -39,7 +57,7 @@ impl Maker {
         self.stream.extend_from_slice(&[0x15, byte]);
     }
 
-    /// A legal viewport: small, medium, or any.
+    /// A viewport in home: small, medium, or any.
     pub fn viewport(&mut self) {
         let (most_columns, most_lines) = match self.numbers.below(4) {
             0 => (1, 1),
@@ -47,31 +65,24 @@ impl Maker {
             2 => (12, 6),
             _ => (79, 23),
         };
-        let (left, right) = self.stretch(79, most_columns);
-        let (top, bottom) = self.stretch(23, most_lines);
+        let home = self.home;
+        let (left, right) = self.numbers.stretch(home.left, home.right, most_columns);
+        let (top, bottom) = self.numbers.stretch(home.top, home.bottom, most_lines);
         self.width = right - left + 1;
         self.height = bottom - top + 1;
+        let (left, right) = self.outwards((left, right), (home.left, home.right));
+        let (top, bottom) = self.outwards((top, bottom), (home.top, home.bottom));
         self.stream.extend_from_slice(&[0x02, left + 32, top + 32, right + 32, bottom + 32]);
-        // Values past the screen mean its last column and line.
-        let length = self.stream.len();
-        if right == 79 && self.numbers.once_in(2) {
-            self.stream[length - 2] = self.numbers.between(111, 127);
-        }
-        if bottom == 23 && self.numbers.once_in(2) {
-            self.stream[length - 1] = self.numbers.between(55, 127);
-        }
     }
 
-    /// A first and a last place from 0 to `end`, the last 1 to `most`
-    /// places after the first; at either end of the screen now and then.
-    fn stretch(&mut self, end: u8, most: u8) -> (u8, u8) {
-        let distance = self.numbers.between(1, most);
-        let first = match self.numbers.below(6) {
-            0 => 0,
-            1 => end - distance,
-            _ => self.numbers.between(0, end - distance),
-        };
-        (first, first + distance)
+    /// Values past home mean its nearest column or line, so a first or
+    /// last one of home may be given by any value further out.
+    fn outwards(&mut self, (first, last): (u8, u8), home: (u8, u8)) -> (u8, u8) {
+        let out_left = first == home.0 && self.numbers.once_in(2);
+        let out_right = last == home.1 && self.numbers.once_in(2);
+        let first = if out_left { self.numbers.between(0, first) } else { first };
+        let last = if out_right { self.numbers.between(last, 95) } else { last };
+        (first, last)
     }
 
     pub fn dle_flood(&mut self) {

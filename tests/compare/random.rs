@@ -1,11 +1,13 @@
-//! The random comparison of a program with the reference.
+//! The random comparison of the program and the library with the
+//! reference.
 
-use crate::difference::first_difference;
+use crate::difference::{first_difference, hex};
 use crate::expected;
 use crate::generator::stream;
 use crate::pairs::{Pairs, ALL_PAIRS};
-use crate::program::{self, Fault};
+use crate::program::Fault;
 use crate::shorten::shorten;
+use crate::subjects::{subjects, Subject};
 use std::ffi::OsStr;
 
 /// Of the pairs not reached no more than this many are named.
@@ -14,6 +16,7 @@ const NAMED: usize = 10;
 /// Compares on `count` streams, prints what differs and a line at the
 /// end, and tells whether all is well.
 pub fn random(seed: u64, count: u64, console: &OsStr) -> bool {
+    let subjects = subjects(console);
     let mut pairs = Pairs::none();
     let mut differing: u64 = 0;
     for number in 0..count {
@@ -25,20 +28,21 @@ pub fn random(seed: u64, count: u64, console: &OsStr) -> bool {
             differing += 1;
             continue;
         }
-        let printed = program::run(console, &input);
-        if let Err(fault @ (Fault::NotStarted(_) | Fault::TooSlow)) = &printed {
-            println!("seed {} stream {}: console {}", seed, number, fault);
-            if *fault == Fault::TooSlow {
+        let (subject, printed) = match first_to_differ(&subjects, &input, &output) {
+            None => continue,
+            Some(found) => found,
+        };
+        if let Err(fault @ (Fault::NotStarted(_) | Fault::TooSlow)) = printed {
+            println!("seed {} stream {}: {} {}", seed, number, subject, fault);
+            if fault == Fault::TooSlow {
                 println!("stream: {}", hex(&input));
             }
             println!("random: stopped after {} of {} streams, seed {}", number, count, seed);
             return false;
         }
-        if differs(&output, &printed) {
-            differing += 1;
-            if differing == 1 {
-                report(seed, number, &input, console);
-            }
+        differing += 1;
+        if differing == 1 {
+            report(seed, number, &input, subject);
         }
     }
     let missing = pairs.missing();
@@ -63,6 +67,18 @@ pub fn random(seed: u64, count: u64, console: &OsStr) -> bool {
     differing == 0 && missing.is_empty()
 }
 
+/// The first that prints something else for the input, with what it prints.
+fn first_to_differ<'a, 'b>(
+    subjects: &'a [Subject<'b>],
+    input: &[u8],
+    output: &str,
+) -> Option<(&'a Subject<'b>, Result<Vec<u8>, Fault>)> {
+    subjects
+        .iter()
+        .map(|subject| (subject, subject.output(input)))
+        .find(|(_, printed)| differs(output, printed))
+}
+
 fn differs(output: &str, printed: &Result<Vec<u8>, Fault>) -> bool {
     match printed {
         Ok(printed) => printed != output.as_bytes(),
@@ -71,28 +87,19 @@ fn differs(output: &str, printed: &Result<Vec<u8>, Fault>) -> bool {
 }
 
 /// Prints the shortest stream that shows a difference, and where.
-fn report(seed: u64, number: u64, input: &[u8], console: &OsStr) {
-    let shortest = shorten(input, |shorter| {
-        differs(&expected::whole(shorter), &program::run(console, shorter))
-    });
-    println!("seed {} stream {}: an output differs", seed, number);
+fn report(seed: u64, number: u64, input: &[u8], subject: &Subject) {
+    let shortest =
+        shorten(input, |shorter| differs(&expected::whole(shorter), &subject.output(shorter)));
+    println!("seed {} stream {}: {} differs", seed, number, subject);
     println!("shortest stream: {}", hex(&shortest));
-    match program::run(console, &shortest) {
-        Err(fault) => println!("console {}", fault),
+    match subject.output(&shortest) {
+        Err(fault) => println!("{} {}", subject, fault),
         Ok(printed) => match first_difference(expected::whole(&shortest).as_bytes(), &printed) {
-            None => println!("it does not differ again: the console is not steady"),
+            None => println!("it does not differ again: the {} is not steady", subject),
             Some(difference) => {
                 println!("output line {} should be {}", difference.line, difference.wanted);
                 println!("output line {} is        {}", difference.line, difference.given);
             }
         },
     }
-}
-
-fn hex(bytes: &[u8]) -> String {
-    if bytes.is_empty() {
-        return "(empty)".to_string();
-    }
-    let digits: Vec<String> = bytes.iter().map(|byte| format!("{:02x}", byte)).collect();
-    digits.join(" ")
 }

@@ -2,9 +2,10 @@
 //! that it must give; to add a case, add a folder.
 
 use crate::difference::first_difference;
+use crate::edges;
 use crate::expected;
 use crate::limits;
-use crate::program;
+use crate::subjects::{subjects, Subject};
 use std::ffi::OsStr;
 use std::fs;
 use std::io;
@@ -12,8 +13,8 @@ use std::path::{Path, PathBuf};
 
 /// Prints a line for each case that fails and one at the end, and tells
 /// whether all is well.
-pub fn streams(folder: &Path, console: &OsStr, bytewise: &OsStr) -> bool {
-    let programs = [("console", console), ("bytewise", bytewise)];
+pub fn streams(folder: &Path, console: &OsStr) -> bool {
+    let subjects = subjects(console);
     let mut passed = 0;
     let mut failed = 0;
     let mut count = |name: &str, faults: &[String]| {
@@ -31,7 +32,7 @@ pub fn streams(folder: &Path, console: &OsStr, bytewise: &OsStr) -> bool {
         Ok(cases) => {
             for case in cases {
                 let name = case.file_name().unwrap_or_default().to_string_lossy().into_owned();
-                count(&name, &stored_case(&case, &programs));
+                count(&name, &stored_case(&case, &subjects));
             }
         }
         Err(error) => {
@@ -39,8 +40,11 @@ pub fn streams(folder: &Path, console: &OsStr, bytewise: &OsStr) -> bool {
         }
     }
     for case in limits::cases() {
-        count(case.name, &limits::faults(&case, &programs));
+        count(case.name, &limits::faults(&case, &subjects));
     }
+    count("library-short-answers", &edges::short_answers());
+    count("library-longer-answer", &edges::longer_answer());
+    count("library-other-screens", &edges::other_screens());
     println!("streams: {} passed, {} failed", passed, failed);
     failed == 0
 }
@@ -59,7 +63,7 @@ fn case_folders(folder: &Path) -> io::Result<Vec<PathBuf>> {
 }
 
 /// What is wrong with one stored case.
-fn stored_case(case: &Path, programs: &[(&str, &OsStr)]) -> Vec<String> {
+fn stored_case(case: &Path, subjects: &[Subject]) -> Vec<String> {
     let mut faults = Vec::new();
     let input = read(case, "input", &mut faults);
     let output = read(case, "output", &mut faults);
@@ -75,7 +79,7 @@ fn stored_case(case: &Path, programs: &[(&str, &OsStr)]) -> Vec<String> {
     if let Some(difference) = first_difference(&output, cut.as_bytes()) {
         faults.push(format!("reference, one byte a write: {}", difference.brief()));
     }
-    faults.extend(program_faults(&input, &output, programs));
+    faults.extend(output_faults(&input, &output, subjects));
     faults
 }
 
@@ -89,15 +93,15 @@ fn read(case: &Path, file: &str, faults: &mut Vec<String>) -> Option<Vec<u8>> {
     }
 }
 
-/// What is wrong with what each program prints for the input.
-pub fn program_faults(input: &[u8], output: &[u8], programs: &[(&str, &OsStr)]) -> Vec<String> {
+/// What is wrong with what each subject prints for the input.
+pub fn output_faults(input: &[u8], output: &[u8], subjects: &[Subject]) -> Vec<String> {
     let mut faults = Vec::new();
-    for (name, path) in programs {
-        match program::run(path, input) {
-            Err(fault) => faults.push(format!("{} {}", name, fault)),
+    for subject in subjects {
+        match subject.output(input) {
+            Err(fault) => faults.push(format!("{} {}", subject, fault)),
             Ok(printed) => {
                 if let Some(difference) = first_difference(output, &printed) {
-                    faults.push(format!("{}: {}", name, difference.brief()));
+                    faults.push(format!("{}: {}", subject, difference.brief()));
                 }
             }
         }

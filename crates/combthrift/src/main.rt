@@ -1,4 +1,77 @@
-// Paper 01's program: the input goes to the console in writes of up to 4,096 bytes. A stream may be cut anywhere.
+// Paper 01's program: standard input through a plain console, and the screen printed in hex.
+// What is read and printed is no part of any contract; the work is `console`'s.
+use console::fresh_console;
+use libc::STDIN_FILENO;
+use libc::STDOUT_FILENO;
+use session::Session;
+use session::hand_over;
+ghost use Prim.Native.Nat.{_<_};
+
+fn hex_digit(n: u8) -> u8 {
+    let digit = n % 16;
+    if digit < 10 {
+        b'0' + digit
+    } else {
+        b'a' + (digit - 10)
+    }
+}
+
+// One line of the screen: 160 hex digits and a line feed.
+fn print_line(screen: &[u8; 1920], line: usize)
+    requires { ⌜ line < 24 ⌝ }
+{
+    let mut text = [b'\n'; 161];
+    for column in 0..80 {
+        let cell = screen[80 * line + column];
+        text[2 * column] = hex_digit(cell / 16);
+        text[2 * column + 1] = hex_digit(cell);
+    }
+    io::write_all(STDOUT_FILENO, &text);
+}
+
+fn print_screen(screen: &[u8; 1920]) {
+    for line in 0..24 {
+        print_line(screen, line);
+    }
+}
+
+// The last line: cursor column, line and bells, in decimal.
+fn print_cursor(at: Session) {
+    let v = at.port.view;
+    io::write_all(STDOUT_FILENO, b"cursor ");
+    io::print_decimal(STDOUT_FILENO, v.column as u64);
+    io::write_all(STDOUT_FILENO, b" ");
+    io::print_decimal(STDOUT_FILENO, v.line as u64);
+    io::write_all(STDOUT_FILENO, b" bells ");
+    io::print_decimal(STDOUT_FILENO, at.bells);
+    io::write_all(STDOUT_FILENO, b"\n");
+}
+
+// The next 4,096 bytes of the input, or what is left of it, in one write. A stream may be cut anywhere.
+fn read_piece(screen: &mut [u8], at: Session) -> Session {
+    let mut piece = io::buffer();
+    let got = io::read_full(STDIN_FILENO, &mut piece);
+    hand_over(screen, at, &piece[..got])
+}
+
+// The input to its end or to 1,048,576 bytes: 256 pieces.
+fn read_all(screen: &mut [u8], at: Session) -> Session {
+    let mut now = at;
+    let mut left: usize = 256;
+    while 0 < left {
+        now = read_piece(screen, now);
+        left -= 1;
+    }
+    now
+}
+
 fn main() {
-    session::run(4096);
+    let mut screen = [0xA0u8; 1920];
+    let start = Session {
+        port: fresh_console(),
+        bells: 0,
+    };
+    let end = read_all(&mut screen, start);
+    print_screen(&screen);
+    print_cursor(end);
 }

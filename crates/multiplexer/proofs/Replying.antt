@@ -17,19 +17,21 @@ use Rattle.port.specs.Valid.{Valid, Legal, legal}
 use Rattle.console.specs.declared.Answer as console-answer
 use Rattle.console.specs.Calls as console
 use Rattle.console.proofs.Answers as console-answers
-use Rattle.multiplexer.specs.declared.Slot.{Slot}
-use Rattle.multiplexer.specs.declared.Multiplexer.{Multiplexer}
+use Rattle.slots.specs.declared.Slot.{Slot}
+use Rattle.slots.specs.declared.Multiplexer.{Multiplexer}
 use Rattle.multiplexer.specs.declared.Answer.{Answer}
 use Rattle.multiplexer.specs.declared.Located.{Located}
 use Rattle.multiplexer.specs.declared.Located.the-variants.{Refused, At}
 use Rattle.multiplexer.specs.declared.Status.{Status}
 use Rattle.multiplexer.specs.declared.Status.the-variants.{Done, ScreenLength, Invalid, NotOpen}
-use Rattle.multiplexer.specs.State.{freeSlot, freshSlot, slotAt, slotOf, hasClient, withSlot, withPort}
-use Rattle.multiplexer.specs.Valid.{validMultiplexer}
-use Rattle.multiplexer.specs.Calls.{Reply, numberOf, refusal, relayed, statusOf, onClient, paneShared, openStatus, opened, openCall, closeCall}
+use Rattle.port.specs.State.{zeroPort, freshPort}
+use Rattle.slots.specs.State.{newSlot, freeSlot, freshSlot, slotAt, slotOf, hasClient, withSlot, withPort}
+use Rattle.slots.specs.Panes.{paneShared}
+use Rattle.slots.specs.Valid.{validMultiplexer}
+use Rattle.multiplexer.specs.Calls.{Reply, numberOf, refusal, relayed, statusOf, onClient, openStatus, opened, openCall, closeCall}
 use Rattle.multiplexer.specs.Located.{locatedSlot, locatedOn, answerWith, Replies, firstRefusal}
-use Rattle.multiplexer.proofs.Validity.{decides-multiplexer}
-use Rattle.multiplexer.proofs.Slots.{slot-client}
+use Rattle.slots.proofs.Validity.{decides-multiplexer}
+use Rattle.slots.proofs.Slots.{slot-client}
 use Rattle.multiplexer.proofs.Opening.{Opens, opens, opens-done, open-refused}
 
 -- each way through `locate`
@@ -144,10 +146,12 @@ module _ (m : Multiplexer) (n : ℕ) (j : Located) (is : j ≡ locatedSlot m n) 
       go true false h = let same : status ≡ NotOpen = cc in by-answer (refusal NotOpen m [] []) r status m 0 [] [] a same refl refl refl refl
       go false z h = let same : status ≡ Invalid = cc in by-answer (refusal Invalid m [] []) r status m 0 [] [] a same refl refl refl refl
 
-  pub close-done-by : (i : ℕ) (x : Slot) (q : Multiplexer) (r : Answer) → j ≡ At i → x ≡ freeSlot → q ≡ withSlot m i x → r ≡ answerWith Done q 0 → Replies (closeCall m n) r [] []
+  pub close-done-by : (i : ℕ) (p : Port) (x : Slot) (q : Multiplexer) (r : Answer) → j ≡ At i → p ≡ zeroPort → x ≡ newSlot 0 p → q ≡ withSlot m i x → r ≡ answerWith Done q 0
+      → Replies (closeCall m n) r [] []
   unfolding closeCall
-  close-done-by i x q r e free w a =
+  close-done-by i p x q r e zero y w a =
       let f = found m n i j is e in
+      let free : x ≡ freeSlot = unfold freeSlot in (y ∙ ap (newSlot 0) zero) in
       rw (f .valid, f .client)
       (by-answer (record { status = Done; multiplexer = withSlot m (slotOf m n) freeSlot; count = 0; screen = []; block = [] }) r Done q 0 [] [] a refl (w ∙ ap (withSlot m i) free ∙ ap (λ (k : ℕ). withSlot m k freeSlot) (f .place)) refl refl refl)
 
@@ -164,13 +168,13 @@ module _ (m : Multiplexer) (s : List ℕ) (n : ℕ) (r : Rect) (status : Status)
   pub open-fits : k ≡ 0 → Opens m (length s) n r
   open-fits z = opens m (length s) n r (ap numberOf (sym is) ∙ sym number ∙ z)
 
-  pub open-done-by : (i : ℕ) (x : Slot) (q : Multiplexer) (a : Answer) (t : List ℕ) → k ≡ 0 → i ≡ slotOf m 0 → x ≡ freshSlot n r → q ≡ withSlot m i x → a ≡ answerWith Done q 0
+  pub open-done-by : (i : ℕ) (p : Port) (x : Slot) (q : Multiplexer) (a : Answer) (t : List ℕ) → k ≡ 0 → i ≡ slotOf m 0 → p ≡ freshPort r → x ≡ newSlot n p → q ≡ withSlot m i x → a ≡ answerWith Done q 0
       → t ≡ edited r Clear 0xa0 s
       → Replies (openCall m s n r) a t []
   unfolding openCall
-  open-done-by i x q a t z at fresh w e cleared =
+  open-done-by i p x q a t z at fresh y w e cleared =
       rw (opens-done m (length s) n r (open-fits z))
-      (by-answer (opened m s n r) a Done q 0 t [] e refl (w ∙ ap (withSlot m i) fresh ∙ ap (λ (j : ℕ). withSlot m j (freshSlot n r)) at) refl cleared refl)
+      (by-answer (opened m s n r) a Done q 0 t [] e refl (w ∙ ap (withSlot m i) (y ∙ ap (newSlot n) fresh) ∙ ap (λ (j : ℕ). withSlot m j (freshSlot n r)) at) refl cleared refl)
 
   pub open-refused-by : (a : Answer) → (k ≡ 0 → ⊥) → a ≡ answerWith status m 0 → Replies (openCall m s n r) a s []
   open-refused-by a z e =

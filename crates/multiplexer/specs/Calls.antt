@@ -1,6 +1,6 @@
 -- Paper 01, 'What comes back': the calls by client. Assumes nothing.
 use Prim.Native.Nat.{ℕ}
-use mathlib.Core.Bool.{Bool, cond, not, _&&_, _||_}
+use mathlib.Core.Bool.{cond, not}
 use mathlib.Core.List.{List, []}
 use lib.Dec.{ltb, eqb}
 use lib.ListN.{length}
@@ -11,12 +11,12 @@ use Rattle.port.specs.declared.Port.{Port}
 use Rattle.port.specs.Valid.{legal}
 use Rattle.console.specs.declared.Status as consoleStatus
 use Rattle.console.specs.Calls as console
-use Rattle.multiplexer.specs.declared.Slot.{Slot}
-use Rattle.multiplexer.specs.declared.Multiplexer.{Multiplexer}
+use Rattle.slots.specs.declared.Multiplexer.{Multiplexer}
 use Rattle.multiplexer.specs.declared.Status.{Status}
 use Rattle.multiplexer.specs.declared.Status.the-variants.{Done, ScreenLength, Invalid, ClientZero, PaneIllegal, ClientTaken, PaneShared, Full, NotOpen, BlockTooShort, BlockMismatch}
-use Rattle.multiplexer.specs.State.{freeSlot, slotAt, slotOf, hasClient, withSlot, withPort, freshSlot}
-use Rattle.multiplexer.specs.Valid.{sharesCell, validMultiplexer}
+use Rattle.slots.specs.State.{freeSlot, slotAt, slotOf, hasClient, withSlot, withPort, freshSlot}
+use Rattle.slots.specs.Valid.{validMultiplexer}
+use Rattle.slots.specs.Panes.{paneShared}
 
 -- the table's 'no.'
 abbrev pub numberOf : Status → ℕ
@@ -74,15 +74,6 @@ returnCall = onClient console.blockReturned
 
 abbrev pub restoreCall : Multiplexer → List ℕ → ℕ → List ℕ → Reply
 restoreCall = onClient console.blockRestored
-
--- 'a pane that shares a cell with an open pane'
-abbrev pub sharesPane : Rect → Slot → Bool
-sharesPane pane x = not (eqb (x .client) 0) && sharesCell (x .port .home) pane
-
-unfoldable pub paneShared : Multiplexer → Rect → Bool
-paneShared m pane =
-    (sharesPane pane (slotAt m 0) || sharesPane pane (slotAt m 1))
-    || (sharesPane pane (slotAt m 2) || sharesPane pane (slotAt m 3))
 
 -- 'open: 1 to 7', for a screen of this length
 unfoldable pub openStatus : Multiplexer → ℕ → ℕ → Rect → Status

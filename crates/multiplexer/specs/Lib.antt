@@ -1,6 +1,3 @@
--- The multiplexer of paper 01, there called a wall: its state, when it is valid, its calls, what the code finds first, and demand 3.
-pub mod State
-pub mod Valid
+-- The calls by client of paper 01, with their refusals, and what the code finds first.
 pub mod Calls
 pub mod Located
-pub mod Isolation

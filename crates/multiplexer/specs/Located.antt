@@ -4,14 +4,14 @@ use mathlib.Core.Path.{_≡_}
 use mathlib.Core.Bool.{Bool, cond}
 use mathlib.Core.List.{List}
 use lib.Dec.{eqb}
-use Rattle.multiplexer.specs.declared.Multiplexer.{Multiplexer}
+use Rattle.slots.specs.declared.Multiplexer.{Multiplexer}
 use Rattle.multiplexer.specs.declared.Answer.{Answer}
 use Rattle.multiplexer.specs.declared.Located.{Located}
 use Rattle.multiplexer.specs.declared.Located.the-variants.{Refused, At}
 use Rattle.multiplexer.specs.declared.Status.{Status}
 use Rattle.multiplexer.specs.declared.Status.the-variants.{Done, ScreenLength, Invalid, ClientZero, PaneIllegal, ClientTaken, PaneShared, Full, NotOpen}
-use Rattle.multiplexer.specs.State.{slotOf, hasClient}
-use Rattle.multiplexer.specs.Valid.{validMultiplexer}
+use Rattle.slots.specs.State.{slotOf, hasClient}
+use Rattle.slots.specs.Valid.{validMultiplexer}
 use Rattle.multiplexer.specs.Calls.{Reply}
 
 -- 2, then 8, and else the place of the client's slot

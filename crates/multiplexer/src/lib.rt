@@ -1,34 +1,24 @@
 // The wall of paper 01: one screen shared by up to four consoles, each in a pane of its own. This is what a host calls.
 // No public function has a `requires`: every input, refused or not, has its equation. No answer names a slot's place.
-mod lookup;
-mod valid;
-
-use lookup::find_client;
-use lookup::free_slot;
-use lookup::fresh_slot;
-use lookup::has_client;
-use lookup::pane_shared;
-use port::Port;
+use port::state::fresh_port;
+use port::state::zero_port;
 use port::valid::legal;
 use screen::Rect;
 use screen::clear;
-use valid::valid_multiplexer;
+use slots::Multiplexer;
+use slots::lookup::find_client;
+use slots::lookup::has_client;
+use slots::lookup::pane_shared;
+use slots::new_slot;
+use slots::valid::valid_multiplexer;
+use slots::with_port;
+use slots::with_slot;
 ghost use mathlib.Core.Path.{_≡_};
 ghost use Prim.Native.Nat.{_<_};
 ghost use mathlib.Core.List.{[]};
-ghost use Rattle.multiplexer.specs.State.{freshMultiplexer, withSlot, withPort};
+ghost use Rattle.slots.specs.State.{freshMultiplexer, withPort};
 ghost use Rattle.multiplexer.specs.Located.{locatedSlot, locatedOn, answerWith, Replies, firstRefusal, claimRefusal};
 ghost use Rattle.multiplexer.specs.Calls.{numberOf, statusOf, openStatus, writeCall, returnCall, restoreCall, openCall, closeCall};
-
-// A slot is the paper's seat, and client its bench number. Client 0: the slot is free, and every field is 0 or false.
-pub struct Slot {
-    pub client: u8,
-    pub port: Port,
-}
-
-pub struct Multiplexer {
-    pub slots: [Slot; 4],
-}
 
 // Paper 01, 'What comes back', for calls by client.
 pub enum Status {
@@ -75,7 +65,7 @@ pub fn status_number(status: Status) -> u8
 pub fn fresh_multiplexer() -> Multiplexer
     ensures { λ r. ⌜ r ≡ freshMultiplexer ⌝ }
 {
-    let free = free_slot();
+    let free = new_slot(0, zero_port());
     Multiplexer { slots: [free; 4] }
 }
 
@@ -129,26 +119,6 @@ fn status_of(status: console::Status) -> Status
         console::Status::BlockTooShort => Status::BlockTooShort,
         console::Status::BlockMismatch => Status::BlockMismatch,
     }
-}
-
-// Another slot in a place.
-fn with_slot(m: Multiplexer, i: usize, slot: Slot) -> Multiplexer
-    requires { ⌜ i < 4 ⌝ }
-    ensures { λ r. ⌜ r ≡ withSlot m i slot ⌝ }
-{
-    let mut slots = m.slots;
-    slots[i] = slot;
-    Multiplexer { slots }
-}
-
-// Another port in a slot.
-fn with_port(m: Multiplexer, i: usize, port: Port) -> Multiplexer
-    requires { ⌜ i < 4 ⌝ }
-    ensures { λ r. ⌜ r ≡ withPort m i port ⌝ }
-{
-    let mut slot = m.slots[i];
-    slot.port = port;
-    with_slot(m, i, slot)
 }
 
 // What a console answered to the port of slot i.
@@ -213,7 +183,7 @@ pub fn close(m: Multiplexer, client: u8) -> Answer
     let located = locate(m, client);
     match located {
         Located::Refused(status) => answer_with(status, m, 0),
-        Located::At(i) => answer_with(Status::Done, with_slot(m, i, free_slot()), 0),
+        Located::At(i) => answer_with(Status::Done, with_slot(m, i, new_slot(0, zero_port())), 0),
     }
 }
 
@@ -288,7 +258,7 @@ pub fn open(m: Multiplexer, screen: &mut [u8], client: u8, pane: Rect) -> Answer
         clear(screen, pane, 0xA0);
         return answer_with(
             Status::Done,
-            with_slot(m, find_client(m, 0), fresh_slot(client, pane)),
+            with_slot(m, find_client(m, 0), new_slot(client, fresh_port(pane))),
             0,
         );
     }

@@ -25,8 +25,8 @@ defaultView home = record {
 }
 
 -- every field 0 or false
-unfoldable pub zeroView : View
-zeroView = record {
+abbrev pub zeros : View
+zeros = record {
   viewport = rectOf 0 0 0 0;
   column = 0;
   line = 0;
@@ -35,9 +35,25 @@ zeroView = record {
   mousetext = false;
 }
 
+-- the same as a name
+unfoldable pub zeroView : View
+zeroView = zeros
+
 -- nothing gathered
 abbrev pub noParameters : List ℕ
 noParameters = 0 ∷ 0 ∷ 0 ∷ 0 ∷ []
+
+-- every field 0 or false
+abbrev pub zeroPort : Port
+zeroPort = record {
+  home = rectOf 0 0 0 0;
+  view = zeroView;
+  hassaved = false;
+  saved = zeroView;
+  waiting = 0;
+  gathered = noParameters;
+  count = 0;
+}
 
 -- 'a fresh port is in the default state, with nothing saved and nothing waiting'
 abbrev pub freshPort : Rect → Port

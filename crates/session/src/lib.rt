@@ -1,21 +1,17 @@
-// Paper 01's program: standard input through a plain console, and the screen printed in hex.
-// What is read and printed is no part of any contract; the work is `console`'s.
-use console::fresh_console;
+// A plain console kept for a session: its port, and the bells so far. A stream may come in pieces of any size.
 use console::write;
-use libc::STDIN_FILENO;
-use libc::STDOUT_FILENO;
 use port::Port;
 ghost use Prim.Native.Nat.{_<_, min};
 ghost use mathlib.Core.Path.{_≡_};
 
-// A port, and the bells so far. There are at most as many as bytes, so that the sum never wraps.
-struct Session {
-    port: Port,
-    bells: u64,
+// There are at most as many bells as bytes, so that the sum never wraps.
+pub struct Session {
+    pub port: Port,
+    pub bells: u64,
 }
 
 // One write.
-fn hand_over(screen: &mut [u8], at: Session, bytes: &[u8]) -> Session {
+pub fn hand_over(screen: &mut [u8], at: Session, bytes: &[u8]) -> Session {
     let answer = write(at.port, screen, bytes);
     let port = answer.port;
     Session {
@@ -30,8 +26,8 @@ fn least(a: usize, b: usize) -> usize
     if a < b { a } else { b }
 }
 
-// The bytes in writes of at most size bytes, which is at least 1.
-fn hand_over_all(screen: &mut [u8], at: Session, bytes: &[u8], size: usize) -> Session
+// The bytes in writes of at most size bytes.
+pub fn hand_over_all(screen: &mut [u8], at: Session, bytes: &[u8], size: usize) -> Session
     requires { ⌜ 0 < size ⌝ }
 {
     let mut now = at;
@@ -42,80 +38,4 @@ fn hand_over_all(screen: &mut [u8], at: Session, bytes: &[u8], size: usize) -> S
         start = end;
     }
     now
-}
-
-fn hex_digit(n: u8) -> u8 {
-    let digit = n % 16;
-    if digit < 10 {
-        b'0' + digit
-    } else {
-        b'a' + (digit - 10)
-    }
-}
-
-// One line of the screen: 160 hex digits and a line feed.
-fn print_line(screen: &[u8; 1920], line: usize)
-    requires { ⌜ line < 24 ⌝ }
-{
-    let mut text = [b'\n'; 161];
-    for column in 0..80 {
-        let cell = screen[80 * line + column];
-        text[2 * column] = hex_digit(cell / 16);
-        text[2 * column + 1] = hex_digit(cell);
-    }
-    io::write_all(STDOUT_FILENO, &text);
-}
-
-fn print_screen(screen: &[u8; 1920]) {
-    for line in 0..24 {
-        print_line(screen, line);
-    }
-}
-
-// The last line: cursor column, line and bells, in decimal.
-fn print_cursor(at: Session) {
-    let v = at.port.view;
-    io::write_all(STDOUT_FILENO, b"cursor ");
-    io::print_decimal(STDOUT_FILENO, v.column as u64);
-    io::write_all(STDOUT_FILENO, b" ");
-    io::print_decimal(STDOUT_FILENO, v.line as u64);
-    io::write_all(STDOUT_FILENO, b" bells ");
-    io::print_decimal(STDOUT_FILENO, at.bells);
-    io::write_all(STDOUT_FILENO, b"\n");
-}
-
-// The next 4,096 bytes of the input, or what is left of it.
-fn read_piece(screen: &mut [u8], at: Session, size: usize) -> Session
-    requires { ⌜ 0 < size ⌝ }
-{
-    let mut piece = io::buffer();
-    let got = io::read_full(STDIN_FILENO, &mut piece);
-    hand_over_all(screen, at, &piece[..got], size)
-}
-
-// The input to its end or to 1,048,576 bytes: 256 pieces.
-fn read_all(screen: &mut [u8], at: Session, size: usize) -> Session
-    requires { ⌜ 0 < size ⌝ }
-{
-    let mut now = at;
-    let mut left: usize = 256;
-    while 0 < left {
-        now = read_piece(screen, now, size);
-        left -= 1;
-    }
-    now
-}
-
-// The program; each write gets at most size bytes.
-pub fn run(size: usize)
-    requires { ⌜ 0 < size ⌝ }
-{
-    let mut screen = [0xA0u8; 1920];
-    let start = Session {
-        port: fresh_console(),
-        bells: 0,
-    };
-    let end = read_all(&mut screen, start, size);
-    print_screen(&screen);
-    print_cursor(end);
 }

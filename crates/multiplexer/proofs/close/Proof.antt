@@ -16,20 +16,35 @@ answer-with-requires c κs = search needs
 enum-known-located-2 : tie.Need-enum-known-located-2
 enum-known-located-2 c = search needs
 
-free-slot-requires : tie.Need-free-slot-requires
-free-slot-requires c κs = search needs
+zero-port-requires : tie.Need-zero-port-requires
+zero-port-requires c κs = search needs
+
+new-slot-requires : tie.Need-new-slot-requires
+new-slot-requires c κs = search needs
 
 with-slot-requires : tie.Need-with-slot-requires
-with-slot-requires c κs = found (c .before .before .before .before .before .args .m) (c .before .before .before .before .before .args .client) (c .before .before .located2 .given .0 .0) (c .before .before .before .before .locate .result) (c .before .before .before .before .locate .ensures) (c .before .before .located2 .given .1) .below
+with-slot-requires c κs =
+    let args = c .before .before .before .before .before .before .args in
+    let found-at = c .before .before .before .before .before .locate in
+    let way = c .before .before .before .located2 .given in
+    found (args .m) (args .client) (way .0 .0) (found-at .result) (found-at .ensures) (way .1) .below
 
 answer-with-requires-2 : tie.Need-answer-with-requires-2
 answer-with-requires-2 c κs = search needs
 
 returns : tie.Need-returns
-returns c = close-refused-by (c .before .before .before .before .before .args .m) (c .before .before .before .before .before .args .client) (c .before .before .before .before .locate .result) (c .before .before .before .before .locate .ensures) (c .before .before .located .given .0 .0) _ (c .before .before .located .given .1) (c .answer-with .ensures)
+returns c =
+    let args = c .before .before .before .before .before .args in
+    let found-at = c .before .before .before .before .locate in
+    let way = c .before .before .located .given in
+    close-refused-by (args .m) (args .client) (found-at .result) (found-at .ensures) (way .0 .0) _ (way .1) (c .answer-with .ensures)
 
 returns-2 : tie.Need-returns-2
-returns-2 c = close-done-by (c .before .before .before .before .before .before .before .args .m) (c .before .before .before .before .before .before .before .args .client) (c .before .before .before .before .before .before .locate .result) (c .before .before .before .before .before .before .locate .ensures) (c .before .before .before .before .located2 .given .0 .0) _ _ _ (c .before .before .before .before .located2 .given .1) (c .before .before .free-slot .ensures) (c .before .with-slot .ensures) (c .answer-with2 .ensures)
+returns-2 c =
+    let args = c .before .before .before .before .before .before .before .before .args in
+    let found-at = c .before .before .before .before .before .before .before .locate in
+    let way = c .before .before .before .before .before .located2 .given in
+    close-done-by (args .m) (args .client) (found-at .result) (found-at .ensures) (way .0 .0) _ _ _ _ (way .1) (c .before .before .before .zero-port .ensures) (c .before .before .new-slot .ensures) (c .before .with-slot .ensures) (c .answer-with2 .ensures)
 
 pub close-spec : {M : Type 1} → statement M
 close-spec =
@@ -39,7 +54,8 @@ close-spec =
     enum-known-located
     answer-with-requires
     enum-known-located-2
-    free-slot-requires
+    zero-port-requires
+    new-slot-requires
     with-slot-requires
     answer-with-requires-2
     returns

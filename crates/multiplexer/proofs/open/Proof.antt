@@ -1,6 +1,6 @@
--- `multiplexer::open` meets its contract: refused, or the lowest free slot becomes a fresh one and the pane is blank. Assumes nothing.
-use native.Mathlib.Omega.{arith}
+-- `multiplexer::open` meets its contract: refused, or the lowest free slot becomes a fresh one and its pane is blank. Assumes nothing.
 use borrow.Author.Needs.{needs}
+use native.Mathlib.Omega.{arith}
 use Rattle.multiplexer.proofs.Replying.{open-fits, open-done-by, open-refused-by, pane-on-screen}
 use Rattle.multiplexer.proofs.open.Statement.{statement}
 use Rattle.multiplexer.proofs.open.Tie as tie
@@ -12,16 +12,30 @@ status-number-requires : tie.Need-status-number-requires
 status-number-requires c κs = search needs
 
 clear-requires : tie.Need-clear-requires
-clear-requires c κs = let fits = open-fits (c .before .before .before .before .before .args .m) (c .before .before .before .before .before .args .screen .now) (c .before .before .before .before .before .args .client) (c .before .before .before .before .before .args .pane) _ (c .before .before .before .open-status .ensures) _ (c .before .before .status-number .ensures) (c .before .if1 .taken) in (pane-on-screen _ (fits .legal), fits .len)
+clear-requires c κs =
+    let args = c .before .before .before .before .before .args in
+    let status = c .before .before .before .open-status .ensures in
+    let number = c .before .before .status-number .ensures in
+    let fits = open-fits (args .m) (args .screen .now) (args .client) (args .pane) _ status _ number (c .before .if1 .taken) in
+    (pane-on-screen _ (fits .legal), fits .len)
 
 find-client-requires : tie.Need-find-client-requires
 find-client-requires c κs = search needs
 
-fresh-slot-requires : tie.Need-fresh-slot-requires
-fresh-slot-requires c κs = search needs
+fresh-port-requires : tie.Need-fresh-port-requires
+fresh-port-requires c κs = search needs
+
+new-slot-requires : tie.Need-new-slot-requires
+new-slot-requires c κs = search needs
 
 with-slot-requires : tie.Need-with-slot-requires
-with-slot-requires c κs = let fits = open-fits (c .before .before .before .before .before .before .before .before .before .before .args .m) (c .before .before .before .before .before .before .before .before .before .before .args .screen .now) (c .before .before .before .before .before .before .before .before .before .before .args .client) (c .before .before .before .before .before .before .before .before .before .before .args .pane) _ (c .before .before .before .before .before .before .before .before .open-status .ensures) _ (c .before .before .before .before .before .before .before .status-number .ensures) (c .before .before .before .before .before .before .if1 .taken) .room in let at = c .before .find-client .ensures in omega arith
+with-slot-requires c κs =
+    let args = c .before .before .before .before .before .before .before .before .before .before .before .args in
+    let status = c .before .before .before .before .before .before .before .before .before .open-status .ensures in
+    let number = c .before .before .before .before .before .before .before .before .status-number .ensures in
+    let room = open-fits (args .m) (args .screen .now) (args .client) (args .pane) _ status _ number (c .before .before .before .before .before .before .before .if1 .taken) .room in
+    let at = c .before .before .find-client .ensures in
+    omega arith
 
 answer-with-requires : tie.Need-answer-with-requires
 answer-with-requires c κs = search needs
@@ -30,13 +44,21 @@ same-length : tie.Need-same-length
 same-length c = search needs
 
 returns : tie.Need-returns
-returns c = open-done-by (c .before .before .before .before .before .before .before .before .before .before .before .before .args .m) (c .before .before .before .before .before .before .before .before .before .before .before .before .args .screen .now) (c .before .before .before .before .before .before .before .before .before .before .before .before .args .client) (c .before .before .before .before .before .before .before .before .before .before .before .before .args .pane) _ (c .before .before .before .before .before .before .before .before .before .before .open-status .ensures) _ (c .before .before .before .before .before .before .before .before .before .status-number .ensures) _ _ _ _ _ (c .before .before .before .before .before .before .before .before .if1 .taken) (c .before .before .before .find-client .ensures) (c .before .before .fresh-slot .ensures) (c .before .with-slot .ensures) (c .answer-with .ensures) (c .before .before .before .before .before .before .clear .ensures)
+returns c =
+    let args = c .before .before .before .before .before .before .before .before .before .before .before .before .before .args in
+    let status = c .before .before .before .before .before .before .before .before .before .before .before .open-status .ensures in
+    let number = c .before .before .before .before .before .before .before .before .before .before .status-number .ensures in
+    open-done-by (args .m) (args .screen .now) (args .client) (args .pane) _ status _ number _ _ _ _ _ _ (c .before .before .before .before .before .before .before .before .before .if1 .taken) (c .before .before .before .before .find-client .ensures) (c .before .before .before .fresh-port .ensures) (c .before .before .new-slot .ensures) (c .before .with-slot .ensures) (c .answer-with .ensures) (c .before .before .before .before .before .before .before .clear .ensures)
 
 answer-with-requires-2 : tie.Need-answer-with-requires-2
 answer-with-requires-2 c κs = search needs
 
 returns-2 : tie.Need-returns-2
-returns-2 c = open-refused-by (c .before .before .before .before .before .args .m) (c .before .before .before .before .before .args .screen .now) (c .before .before .before .before .before .args .client) (c .before .before .before .before .before .args .pane) _ (c .before .before .before .open-status .ensures) _ (c .before .before .status-number .ensures) _ (c .before .if1 .left) (c .answer-with2 .ensures)
+returns-2 c =
+    let args = c .before .before .before .before .before .args in
+    let status = c .before .before .before .open-status .ensures in
+    let number = c .before .before .status-number .ensures in
+    open-refused-by (args .m) (args .screen .now) (args .client) (args .pane) _ status _ number _ (c .before .if1 .left) (c .answer-with2 .ensures)
 
 pub open-spec : {M : Type 1} → statement M
 open-spec =
@@ -46,7 +68,8 @@ open-spec =
     status-number-requires
     clear-requires
     find-client-requires
-    fresh-slot-requires
+    fresh-port-requires
+    new-slot-requires
     with-slot-requires
     answer-with-requires
     same-length

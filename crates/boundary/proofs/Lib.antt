@@ -1,0 +1,2 @@
+-- `Calls`: where a call that was found lies.
+pub mod Calls

@@ -1,0 +1,2 @@
+-- Where the calls of a script lie.
+pub mod Script

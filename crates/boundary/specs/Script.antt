@@ -1,0 +1,16 @@
+-- Where a call lies in a script: this is all that the boundary's own contracts say. Assumes nothing.
+use Prim.Native.Nat.{ℕ, _+_, _≤_, _<_}
+use Rattle.boundary.specs.declared.script.Call.{Call}
+use Rattle.boundary.specs.declared.script.Next.{Next}
+use Rattle.boundary.specs.declared.script.Next.the-variants.{End, Made}
+
+-- in a script of this size
+pub record Lies (size : ℕ) (c : Call) : Type 0 where
+  pub ordered : c .start ≤ c .end
+  pub within : c .end ≤ size
+  pub lent-within : c .start + c .lent ≤ c .end
+
+-- .. and past a place of it
+abbrev pub LiesPast : ℕ → ℕ → Next → Type 0
+LiesPast size at End = Unit {0}
+LiesPast size at (Made c) = Lies size c × (at < c .end)

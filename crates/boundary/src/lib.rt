@@ -1,0 +1,177 @@
+// Runs from Rust, for tests and benchmarks: a script of calls by client, or a plain stream in pieces. Scripts, streams and answers are bytes.
+// No state crosses this boundary. What it assumes of its caller is outside the proofs: each pointer is good for its length, and lent slices do not overlap.
+mod answer;
+mod script;
+
+use answer::has_room;
+use answer::put_head;
+use bytes::copy;
+use console::fresh_console;
+use multiplexer::Answer;
+use multiplexer::close;
+use multiplexer::fresh_multiplexer;
+use multiplexer::open;
+use multiplexer::restore_block;
+use multiplexer::return_block;
+use multiplexer::write;
+use script::Call;
+use script::Next;
+use script::next_call;
+use script::pane_of;
+use session::Session;
+use session::hand_over_all;
+use slots::Multiplexer;
+ghost use Prim.Native.Nat.{_+_, _≤_, _<_, min};
+ghost use mathlib.Core.Path.{_≡_};
+ghost use lib.ListN.{length};
+ghost use Rattle.boundary.specs.Script.{Lies};
+
+// One call. lent is a block return's block, and arguments are the bytes of the others.
+fn serve(
+    m: Multiplexer,
+    screen: &mut [u8],
+    kind: u8,
+    client: u8,
+    arguments: &[u8],
+    lent: &mut [u8],
+) -> Answer {
+    match kind {
+        0 => open(m, screen, client, pane_of(arguments)),
+        1 => close(m, client),
+        2 => write(m, screen, client, arguments),
+        3 => return_block(m, screen, client, lent),
+        _ => restore_block(m, screen, client, arguments),
+    }
+}
+
+// The multiplexer after a call, where the next call starts, and the length of the answer: 0 where no call was made.
+struct Made {
+    multiplexer: Multiplexer,
+    next: usize,
+    length: usize,
+}
+
+// Makes a call of the script, and puts its answer at the front of answers.
+fn make(m: Multiplexer, screen: &mut [u8], script: &[u8], call: Call, answers: &mut [u8]) -> Made
+    requires { ⌜ Lies (length (now script)) call × (5 + call .lent + length (now screen) ≤ length (now answers)) ⌝ }
+    ensures { λ r. ⌜ (r .next ≡ call .end) × (r .length ≤ length (now (answers .entry))) ⌝ }
+{
+    let start = call.start;
+    let end = call.end;
+    let lent = call.lent;
+    let cells = 5 + lent;
+    let length = cells + screen.len();
+    copy(&script[start..start + lent], &mut answers[5..cells]);
+    let answer = serve(
+        m,
+        screen,
+        call.kind,
+        call.client,
+        &script[start..end],
+        &mut answers[5..cells],
+    );
+    let status = answer.status;
+    put_head(
+        answers,
+        multiplexer::status_number(status),
+        answer.count as u64,
+    );
+    copy(screen, &mut answers[cells..]);
+    let multiplexer = answer.multiplexer;
+    Made {
+        multiplexer,
+        next: end,
+        length,
+    }
+}
+
+// The call at a place of the script, where there is one and there is room for its answer.
+fn make_next(
+    m: Multiplexer,
+    screen: &mut [u8],
+    script: &[u8],
+    at: usize,
+    answers: &mut [u8],
+) -> Made
+    requires { ⌜ at ≤ length (now script) ⌝ }
+    ensures { λ r. ⌜ (at + min 1 (r .length) ≤ r .next) × (r .next ≤ length (now (script .entry))) × (r .length ≤ length (now (answers .entry))) ⌝ }
+{
+    let next = next_call(script, at);
+    match next {
+        Next::End => none_made(m, at),
+        Next::Made(call) => {
+            if has_room(answers.len(), call.lent, screen.len()) {
+                return make(m, screen, script, call, answers);
+            }
+            none_made(m, at)
+        }
+    }
+}
+
+fn none_made(m: Multiplexer, at: usize) -> Made
+    ensures { λ r. ⌜ (r .next ≡ at) × (r .length ≡ 0) ⌝ }
+{
+    Made {
+        multiplexer: m,
+        next: at,
+        length: 0,
+    }
+}
+
+// Runs a script in order, on a fresh multiplexer and the lent screen. The answers go to the front of answers; the result is how many bytes they are.
+// A call that is cut off or unknown ends the run, and so does one whose answer finds no room: it is not made.
+#[no_mangle]
+pub extern "C" fn combthrift_run_script(
+    script: &[u8],
+    screen: &mut [u8],
+    answers: &mut [u8],
+) -> usize {
+    let mut m = fresh_multiplexer();
+    let mut from = 0;
+    let mut to = 0;
+    loop {
+        let made = make_next(m, screen, script, from, &mut answers[to..]);
+        if made.length == 0 {
+            return to;
+        }
+        m = made.multiplexer;
+        from = made.next;
+        to += made.length;
+    }
+}
+
+fn at_least_1(size: usize) -> usize
+    ensures { λ r. ⌜ 0 < r ⌝ }
+{
+    if size == 0 {
+        return 1;
+    }
+    size
+}
+
+// Hands a stream to a fresh plain console in writes of at most size bytes; 0 counts as 1. The answer is the status, the bells as four bytes, low byte first,
+// the cursor's column and its line. The result is its length, or 0 where answer is shorter and nothing was done.
+#[no_mangle]
+pub extern "C" fn combthrift_run_stream(
+    bytes: &[u8],
+    size: usize,
+    screen: &mut [u8],
+    answer: &mut [u8],
+) -> usize {
+    if answer.len() < 7 {
+        return 0;
+    }
+    let start = Session {
+        port: fresh_console(),
+        bells: 0,
+    };
+    let end = hand_over_all(screen, start, bytes, at_least_1(size));
+    // An empty write is judged as the others were, and changes nothing.
+    let last = console::write(end.port, screen, &bytes[..0]);
+    let status = last.status;
+    let view = end.port.view;
+    put_head(answer, console::status_number(status), end.bells);
+    answer[5] = view.column;
+    answer[6] = view.line;
+    7
+}

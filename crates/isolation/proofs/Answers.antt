@@ -1,0 +1,158 @@
+-- When each call by client gives each status. Assumes nothing.
+use Prim.Native.Nat.{ℕ, _<_}
+use native.Mathlib.Omega.{arith}
+use mathlib.Core.Path.{_≡_, refl, sym, _∙_, subst}
+use mathlib.Core.Logic.{⊎-elim}
+use mathlib.Core.List.{List, [], _∷_}
+use lib.Dec.{ltb, eqb}
+use lib.ListN.{length}
+use borrow.Author.Tests.{eqb-true}
+use Rattle.screen.specs.declared.Rect.{Rect}
+use Rattle.screen.proofs.Tests.{tested, not-both, below?, by-test, Decides, decides-lt, decides-eq, decides-both, decides-as}
+use Rattle.block.specs.Block.{blockLength, blockFits}
+use Rattle.port.specs.declared.Port.{Port}
+use Rattle.port.proofs.Validity.{decides-legal}
+use Rattle.console.specs.Calls as console
+use Rattle.slots.specs.declared.Multiplexer.{Multiplexer}
+use Rattle.multiplexer.specs.declared.Status.{Status}
+use Rattle.multiplexer.specs.declared.Status.the-variants.{ScreenLength, Invalid, ClientZero, PaneIllegal, ClientTaken, PaneShared, Full, NotOpen, BlockTooShort, BlockMismatch}
+use Rattle.slots.specs.State.{slotAt, Open, Free, Closed, slotOf}
+use Rattle.slots.specs.Valid.{ValidMultiplexer}
+use Rattle.multiplexer.specs.Calls.{numberOf, statusOf, Reply, onClient, writeCall, returnCall, restoreCall, openStatus, openCall, closeCall}
+use Rattle.slots.proofs.Validity.{decides-multiplexer}
+use Rattle.slots.proofs.Slots.{decides-client, slot-client, slot-found, slot-open}
+use Rattle.multiplexer.proofs.Opening.{decides-pane-shared, opens, opens-done}
+use Rattle.isolation.specs.Laws.{viewport, Fits, Applies, Exactly, Statuses, ValidStatuses, GoesTo, SlotStatuses}
+use Rattle.isolation.proofs.Rules.{First, spared, refused-if, refused-unless, answers-first}
+use Rattle.isolation.proofs.Rules.First.{none}
+
+decides-fits : (r : Rect) (block : List ℕ) → Decides (blockFits r block) (Fits r block)
+unfolding blockFits
+decides-fits r block =
+    decides-as (decides-both (decides-eq _ _) (decides-both (decides-eq _ _) (decides-eq _ _))) (λ k. record { size = k .0; width = k .1 .0; height = k .1 .1 }) (λ h. (h .size, (h .width, h .height)))
+
+decides-free : (m : Multiplexer) → Decides (ltb (slotOf m 0) 4) ((i : ℕ) × Free m i)
+decides-free m = decides-as (decides-lt (slotOf m 0) 4) (λ h. (slotOf m 0, (h, slot-client m 0 h))) (λ k. slot-found m 0 (k .0) (k .1 .0) (k .1 .1))
+
+-- the status of a reply, and of a console's
+abbrev replied : Reply → Status
+replied x = x .status
+
+abbrev heard : console.Reply → Status
+heard x = statusOf (x .status)
+
+module _ (m : Multiplexer) (s : List ℕ) (n : ℕ) (r : Rect) (block : List ℕ) where
+  -- 9 and 10 are of the client's slot, which is one
+  module _ (i : ℕ) (g : GoesTo m s n i) where
+    of-slot : (Q : Rect → Type 0) → (j : ℕ) × Open m j × (slotAt m j .client ≡ n) × Q (viewport m j) → Q (viewport m i)
+    of-slot Q k = subst (λ (j : ℕ). Q (viewport m j)) (g .valid .clients (k .0) i (k .1) (g .is-open) (k .2 ∙ sym (g .client))) (k .3)
+
+    too-short : Applies m s n r block BlockTooShort → length block < blockLength (viewport m i)
+    too-short = of-slot (λ q. length block < blockLength q)
+
+    mismatched : Applies m s n r block BlockMismatch → Fits (viewport m i) block → ⊥
+    mismatched = of-slot (λ q. Fits q block → ⊥)
+
+  -- ---- the five calls
+  -- a call on a client's port: 1, 2, 8, and then what the console's call gives
+  client-first : (call : Port → List ℕ → List ℕ → console.Reply) {xs : List Status}
+      → ((i : ℕ) → GoesTo m s n i → First (Applies m s n r block) (heard (call (slotAt m i .port) s block)) xs)
+      → First (Applies m s n r block) (onClient call m s n block .status) (ScreenLength ∷ Invalid ∷ NotOpen ∷ xs)
+  unfolding onClient
+  client-first call rest =
+      refused-unless replied (decides-eq (length s) 1920) (λ k. k) (λ p k. k p) refl λ l.
+      refused-unless replied (decides-multiplexer m) (λ k. k) (λ p k. k p) refl λ v.
+      refused-unless replied (decides-client m n) (λ k i o e. k (i, o, e)) (λ k closed. closed (k .0) (k .1) (k .2)) refl λ k.
+      rw (slot-open m v (k .0) n (k .1) (k .2)) (rest (k .0) (record { valid = v; len = l; is-open = k .1; client = k .2 }))
+
+  write-first : First (Applies m s n r block) (writeCall m s n block .status) (ScreenLength ∷ Invalid ∷ NotOpen ∷ [])
+  unfolding console.written
+  write-first = client-first console.written (λ i g. none refl)
+
+  return-first : First (Applies m s n r block) (returnCall m s n block .status) (ScreenLength ∷ Invalid ∷ NotOpen ∷ BlockTooShort ∷ [])
+  unfolding console.blockReturned
+  return-first =
+      client-first console.blockReturned λ i g.
+      refused-if heard (decides-as (decides-lt _ _) (λ h. (i, g .is-open, g .client, h)) (too-short i g)) refl λ _.
+      none refl
+
+  restore-first : First (Applies m s n r block) (restoreCall m s n block .status) (ScreenLength ∷ Invalid ∷ NotOpen ∷ BlockMismatch ∷ [])
+  unfolding console.blockRestored
+  restore-first =
+      client-first console.blockRestored λ i g.
+      refused-unless heard (decides-fits (viewport m i) block) (λ h. (i, g .is-open, g .client, h)) (λ h k. mismatched i g k h) refl λ _.
+      none refl
+
+  close-first : First (Applies m s n r block) (closeCall m n .status) (Invalid ∷ NotOpen ∷ [])
+  unfolding closeCall
+  close-first =
+      refused-unless replied (decides-multiplexer m) (λ k. k) (λ p k. k p) refl λ v.
+      refused-unless replied (decides-client m n) (λ k i o e. k (i, o, e)) (λ k closed. closed (k .0) (k .1) (k .2)) refl λ _.
+      none refl
+
+  open-status : openCall m s n r .status ≡ openStatus m (length s) n r
+  unfolding openCall
+  open-status =
+      by-test (λ (x : Reply). x .status ≡ openStatus m (length s) n r) (eqb (numberOf (openStatus m (length s) n r)) 0)
+      (λ e. sym (opens-done m (length s) n r (opens m (length s) n r (eqb-true _ _ e))))
+      (λ _. refl)
+
+  open-first : First (Applies m s n r block) (openCall m s n r .status) (ScreenLength ∷ Invalid ∷ ClientZero ∷ PaneIllegal ∷ ClientTaken ∷ PaneShared ∷ Full ∷ [])
+  unfolding openStatus
+  open-first =
+      rw open-status
+      (refused-unless (λ x. x) (decides-eq (length s) 1920) (λ k. k) (λ p k. k p) refl λ _.
+      refused-unless (λ x. x) (decides-multiplexer m) (λ k. k) (λ p k. k p) refl λ v.
+      refused-if (λ x. x) (decides-eq n 0) refl λ _.
+      refused-unless (λ x. x) (decides-legal r) (λ k. k) (λ p k. k p) refl λ legal.
+      refused-if (λ x. x) (decides-client m n) refl λ _.
+      refused-if (λ x. x) (decides-pane-shared m v r legal) refl λ _.
+      refused-unless (λ x. x) (decides-free m) (λ k i free. k (i, free)) (λ k full. full (k .0) (k .1)) refl λ _.
+      none refl)
+
+  pub statuses : Statuses m s n r block
+  statuses = record {
+    opening = answers-first (omega arith) open-first;
+    closing = answers-first (omega arith) close-first;
+    writing = answers-first (omega arith) write-first;
+    returning = answers-first (omega arith) return-first;
+    restoring = answers-first (omega arith) restore-first;
+  }
+
+  -- where 1 and 2 do not apply
+  module _ (v : ValidMultiplexer m) (l : length s ≡ 1920) where
+    on-screen : {given : Status} {xs : List Status} → First (Applies m s n r block) given (ScreenLength ∷ Invalid ∷ xs) → First (Applies m s n r block) given xs
+    on-screen f = spared (λ k. k v) (spared (λ k. k l) f)
+
+    pub valid-statuses : ValidStatuses m s n r block
+    valid-statuses = record {
+      opening = answers-first (omega arith) (on-screen open-first);
+      closing = answers-first (omega arith) (spared (λ k. k v) close-first);
+      writing = answers-first (omega arith) (on-screen write-first);
+      returning = answers-first (omega arith) (on-screen return-first);
+      restoring = answers-first (omega arith) (on-screen restore-first);
+    }
+
+-- ---- at an open slot
+exactly-as : {given x : Status} {P Q : Type 0} → Exactly given x P → (P → Q) → (Q → P) → Exactly given x Q
+exactly-as h f g = record { only-when = λ e. f (h .only-when e); whenever = λ q. h .whenever (g q) }
+
+pub slot-statuses : (m : Multiplexer) (s : List ℕ) (n : ℕ) (block : List ℕ) (i : ℕ) → GoesTo m s n i → SlotStatuses m s n block i
+slot-statuses m s n block i g =
+    let r : Rect = viewport m i in
+    let a = valid-statuses m s n r block (g .valid) (g .len) in
+    let found : Closed m n → ⊥ = λ closed. closed i (g .is-open) (g .client) in
+    record {
+      close-done = a .closing .each .1 .whenever (tt, found);
+      write-done = a .writing .each .1 .whenever (tt, found);
+      return-done =
+          exactly-as (a .returning .each .1 .1)
+          (λ k. ⊎-elim (λ h. absurd (k .1 (i, g .is-open, g .client, h))) (λ h. h) (below? _ _))
+          (λ h. ((tt, found), λ k. let l = too-short m s n r block i g k in omega arith));
+      return-short = exactly-as (a .returning .each .1 .0) (λ k. too-short m s n r block i g (k .1)) (λ h. ((tt, found), (i, g .is-open, g .client, h)));
+      restore-done =
+          exactly-as (a .restoring .each .1 .1)
+          (λ k. ⊎-elim (decides-fits _ _ .holds) (λ h. absurd (k .1 (i, g .is-open, g .client, λ f. not-both (decides-fits _ _ .passes f) h))) (tested _))
+          (λ h. ((tt, found), λ k. mismatched m s n r block i g k h));
+      restore-mismatch = exactly-as (a .restoring .each .1 .0) (λ k. mismatched m s n r block i g (k .1)) (λ h. ((tt, found), (i, g .is-open, g .client, h)));
+    }

@@ -1,0 +1,49 @@
+-- The fresh multiplexer is valid; what a closing leaves; and every closing leaves a valid multiplexer valid. Assumes nothing.
+use Prim.Native.Nat.{ℕ}
+use mathlib.Core.Path.{_≡_, refl}
+use mathlib.Core.Logic.{⊎-elim}
+use mathlib.Core.List.{[]}
+use Rattle.port.specs.State.{zeroView}
+use Rattle.port.specs.Valid.{zeroRect, isZeroView, noFlags, unusedZero, usedOrZero}
+use Rattle.slots.specs.declared.Multiplexer.{Multiplexer}
+use Rattle.multiplexer.specs.declared.Status.the-variants.{Done, NotOpen}
+use Rattle.slots.specs.State.{freeSlot, freshMultiplexer, slotAt, Open, Closed}
+use Rattle.slots.specs.Valid.{isZeroPort, validSlot, compatible, validSlots, validMultiplexer, ValidMultiplexer}
+use Rattle.multiplexer.specs.Calls.{Reply, refusal, closeCall}
+use Rattle.slots.proofs.Validity.{SlotFacts, fails, decides-zero-port, decides-multiplexer}
+use Rattle.slots.proofs.Slots.{decides-client, client?, slot-open, slot-set, slot-kept, set-valid}
+
+free-valid : SlotFacts freeSlot
+unfolding freeSlot isZeroPort zeroRect isZeroView noFlags zeroView unusedZero usedOrZero
+free-valid = (λ _. decides-zero-port _ .holds refl, λ n. absurd (n refl))
+
+pub record Closing (m : Multiplexer) (i : ℕ) (reply : Reply) : Type 0 where
+  pub status : reply .status ≡ Done
+  pub valid : ValidMultiplexer (reply .multiplexer)
+  -- 'sets every field of the seat to 0 or false'
+  pub slot : slotAt (reply .multiplexer) i ≡ freeSlot
+  pub others : (j : ℕ) → (j ≡ i → ⊥) → slotAt (reply .multiplexer) j ≡ slotAt m j
+
+pub closed-leaves : (m : Multiplexer) (n : ℕ) → ValidMultiplexer m → (i : ℕ) → Open m i → slotAt m i .client ≡ n → Closing m i (closeCall m n)
+unfolding closeCall
+closed-leaves m n v i o e =
+    rw (decides-multiplexer m .passes v, decides-client m n .passes (i, o, e), slot-open m v i n o e)
+    (record {
+      status = refl;
+      valid = set-valid m v i (o .0) freeSlot free-valid (λ j k u z. absurd (z (unfold freeSlot in refl)));
+      slot = slot-set m v i (o .0) freeSlot;
+      others = slot-kept m v i (o .0) freeSlot;
+    })
+
+pub close-refused : (m : Multiplexer) (n : ℕ) → ValidMultiplexer m → Closed m n → closeCall m n ≡ refusal NotOpen m [] []
+unfolding closeCall
+close-refused m n v h = simp (decides-multiplexer m .passes v, fails (decides-client m n) (λ k. h (k .0) (k .1) (k .2)))
+
+pub close-valid : (m : Multiplexer) (n : ℕ) → ValidMultiplexer m → ValidMultiplexer (closeCall m n .multiplexer)
+close-valid m n v =
+    ⊎-elim (λ k. closed-leaves m n v (k .0) (k .1) (k .2) .valid) (λ h. rw (close-refused m n v h) v) (client? m n)
+
+-- a fresh multiplexer is valid
+pub fresh-multiplexer : ValidMultiplexer freshMultiplexer
+unfolding freeSlot isZeroPort zeroRect isZeroView noFlags zeroView unusedZero usedOrZero validMultiplexer validSlots validSlot compatible
+fresh-multiplexer = decides-multiplexer freshMultiplexer .holds refl

@@ -1,0 +1,76 @@
+-- One call on a valid multiplexer: which slot it goes to, and its frame: valid, lengths, every slot but the addressed one, every cell outside the addressed pane. Assumes nothing.
+use Prim.Native.Nat.{ℕ}
+use mathlib.Core.Path.{_≡_, refl, sym, ap, _∙_}
+use mathlib.Core.Logic.{⊎-elim}
+use mathlib.Core.List.{List}
+use lib.ListN.{length, getD}
+use borrow.Author.Tests.{eq-eqb}
+use Rattle.screen.specs.Cells.{Inside}
+use Rattle.port.specs.declared.Port.{Port}
+use Rattle.port.specs.Valid.{Valid}
+use Rattle.slots.specs.declared.Slot.{Slot}
+use Rattle.slots.specs.declared.Multiplexer.{Multiplexer}
+use Rattle.multiplexer.specs.declared.Status.the-variants.{NotOpen}
+use Rattle.slots.specs.State.{slotAt, pane, Open, withPort, Closed}
+use Rattle.slots.specs.Valid.{ValidMultiplexer}
+use Rattle.multiplexer.specs.Calls.{Reply, refusal, relayed, onClient}
+use Rattle.isolation.specs.Isolation.{Call, consoleCall, serve}
+use Rattle.slots.proofs.Validity.{fails, decides-multiplexer}
+use Rattle.isolation.proofs.Consoles.{keeps-call}
+use Rattle.slots.proofs.Slots.{decides-client, client?, slot-open, slot-kept, at-place, set-valid}
+
+-- the same clients and panes
+pub record SameLabels (a b : Multiplexer) : Type 0 where
+  pub client : (i : ℕ) → slotAt a i .client ≡ slotAt b i .client
+  pub home : (i : ℕ) → pane a i ≡ pane b i
+
+-- another port of the same home in an open slot
+module _ (m : Multiplexer) (v : ValidMultiplexer m) (i : ℕ) (o : Open m i) (p : Port) (h : p .home ≡ pane m i) where
+  port-valid : Valid p → ValidMultiplexer (withPort m i p)
+  port-valid k =
+      set-valid m v i (o .0) _ (λ e. absurd (o .1 e), λ _. k)
+      (λ j n u _. (λ e. n (v .clients j i u o e), λ c f g. v .panes j i u o n c f (rw h at g)))
+
+  port-labels : SameLabels (withPort m i p) m
+  port-labels =
+      let at = at-place m v i (o .0) (record { client = slotAt m i .client; port = p }) in
+      record {
+        client = λ j. ⊎-elim (λ k. ap (λ (y : Slot). y .client) (k .1) ∙ ap (λ (y : ℕ). slotAt m y .client) (sym (k .0))) (λ k. ap (λ (y : Slot). y .client) (k .1)) (at j);
+        home = λ j. ⊎-elim (λ k. ap (λ (y : Slot). y .port .home) (k .1) ∙ h ∙ ap (pane m) (sym (k .0))) (λ k. ap (λ (y : Slot). y .port .home) (k .1)) (at j);
+      }
+
+-- what any call of client n keeps
+pub record Frame (m : Multiplexer) (s : List ℕ) (n : ℕ) (r : Reply) : Type 0 where
+  pub valid : ValidMultiplexer (r .multiplexer)
+  pub len : length (r .screen) ≡ 1920
+  pub labels : SameLabels (r .multiplexer) m
+  pub slots : (i : ℕ) → (Open m i → slotAt m i .client ≡ n → ⊥) → slotAt (r .multiplexer) i ≡ slotAt m i
+  pub cells : (k : ℕ) → ((i : ℕ) → Open m i → slotAt m i .client ≡ n → Inside (pane m i) k → ⊥) → getD (r .screen) k 0 ≡ getD s k 0
+
+module _ (m : Multiplexer) (s : List ℕ) (c : Call) (v : ValidMultiplexer m) (l : length s ≡ 1920) where
+  -- a client with no open slot
+  pub turned-away : Closed m (c .client) → serve m s c ≡ refusal NotOpen m s (c .request .block)
+  unfolding onClient
+  turned-away h = simp (eq-eqb _ _ l, decides-multiplexer m .passes v, fails (decides-client m (c .client)) (λ k. h (k .0) (k .1) (k .2)))
+
+  -- a client with an open slot
+  pub goes-to : (i : ℕ) → Open m i → slotAt m i .client ≡ c .client → serve m s c ≡ relayed m i (consoleCall (c .request .kind) (slotAt m i .port) s (c .request .block))
+  unfolding onClient
+  goes-to i o e = simp (eq-eqb _ _ l, decides-multiplexer m .passes v, decides-client m (c .client) .passes (i, o, e), slot-open m v i (c .client) o e)
+
+  pub frame : Frame m s (c .client) (serve m s c)
+  frame =
+      ⊎-elim
+      (λ f. let i = f .0 in
+      let o = f .1 in
+      let k = keeps-call (slotAt m i .port) (v .ports i o) (c .request .block) (c .request .kind) s l in
+      rw (goes-to i o (f .2))
+      (record {
+        valid = port-valid m v i o _ (k .home) (k .valid);
+        len = k .len;
+        labels = port-labels m v i o _ (k .home);
+        slots = λ j n. slot-kept m v i (o .0) _ j (λ e. n (rw e o) (rw e (f .2)));
+        cells = λ j n. k .outside j (n i o (f .2));
+      }))
+      (λ h. rw (turned-away h) (record { valid = v; len = l; labels = record { client = λ i. refl; home = λ i. refl }; slots = λ i n. refl; cells = λ k n. refl }))
+      (client? m (c .client))

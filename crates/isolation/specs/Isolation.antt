@@ -1,0 +1,136 @@
+-- Demand 3: whatever the other clients sent, each open client is as on a standalone console. Paper 01, 'Demand 3: the lone bench'. Assumes nothing.
+use Prim.Native.Nat.{ℕ}
+use mathlib.Core.Path.{_≡_}
+use mathlib.Core.Bool.{true, cond}
+use mathlib.Core.List.{List, [], _∷_, _++_, map}
+use lib.Dec.{eqb}
+use lib.ListN.{length, getD}
+use Rattle.screen.specs.Cells.{Inside}
+use Rattle.screen.specs.Local.{Agree}
+use Rattle.port.specs.declared.Port.{Port}
+use Rattle.console.specs.Calls as console
+use Rattle.slots.specs.declared.Multiplexer.{Multiplexer}
+use Rattle.slots.specs.State.{slotAt, pane, Open, Free, Closed}
+use Rattle.slots.specs.Valid.{validMultiplexer}
+use Rattle.multiplexer.specs.Calls.{numberOf, Reply, onClient}
+
+pub data Kind : Type 0 where
+  Write Return Restore : Kind
+
+-- 'each one's kind and arguments without the wall and screen': a block is lent to one call only
+pub record Request : Type 0 where
+  pub kind : Kind
+  pub block : List ℕ
+
+-- a call by client
+pub record Call : Type 0 where
+  pub client : ℕ
+  pub request : Request
+
+-- 'a call's answer is all that it hands back besides wall and screen: number, count and its lent block's bytes'
+pub record Answer : Type 0 where
+  pub number : ℕ
+  pub count : ℕ
+  pub block : List ℕ
+
+-- the console's call of a kind
+abbrev pub consoleCall : Kind → Port → List ℕ → List ℕ → console.Reply
+consoleCall Write = console.written
+consoleCall Return = console.blockReturned
+consoleCall Restore = console.blockRestored
+
+-- ---- the multiplexer, fed a list of calls
+-- what serves one call: `serve`, or another that is held to the same demand
+abbrev pub Server : Type 0
+Server = Multiplexer → List ℕ → Call → Reply
+
+abbrev pub serve : Server
+serve m s c = onClient (consoleCall (c .request .kind)) m s (c .client) (c .request .block)
+
+abbrev pub answerOf : Reply → Answer
+answerOf r = record { number = numberOf (r .status); count = r .count; block = r .block }
+
+pub record Served : Type 0 where
+  pub multiplexer : Multiplexer
+  pub screen : List ℕ
+  pub answers : List Answer
+
+-- 'the first gets the starting wall and screen; each later one gets the wall and screen that the one before left, refused or not'
+unfoldable pub serveAll : Server → Multiplexer → List ℕ → List Call → Served
+serveAll f m s [] = record { multiplexer = m; screen = s; answers = [] }
+serveAll f m s (c ∷ cs) =
+    let r : Reply = f m s c in
+    let rest : Served = serveAll f (r .multiplexer) (r .screen) cs in
+    record { multiplexer = rest .multiplexer; screen = rest .screen; answers = answerOf r ∷ rest .answers }
+
+-- ---- the standalone console, the paper's lone bench: 'its state is a port and 1,920 cells'. It knows no slot and no client.
+abbrev pub consoleAnswer : console.Reply → Answer
+consoleAnswer r = record { number = console.numberOf (r .status); count = r .count; block = r .block }
+
+pub record Standalone : Type 0 where
+  pub port : Port
+  pub screen : List ℕ
+  pub answers : List Answer
+
+unfoldable pub standalone : Port → List ℕ → List Request → Standalone
+standalone p s [] = record { port = p; screen = s; answers = [] }
+standalone p s (q ∷ qs) =
+    let r : console.Reply = consoleCall (q .kind) p s (q .block) in
+    let rest : Standalone = standalone (r .port) (r .screen) qs in
+    record { port = rest .port; screen = rest .screen; answers = consoleAnswer r ∷ rest .answers }
+
+-- ---- which calls are whose
+-- 'the calls with that seat's number, in their order'
+unfoldable pub requestsOf : ℕ → List Call → List Request
+requestsOf n [] = []
+requestsOf n (c ∷ cs) = cond (eqb (c .client) n) (c .request ∷ requestsOf n cs) (requestsOf n cs)
+
+-- the answers to them, in their order
+unfoldable pub answersTo : ℕ → List Call → List Answer → List Answer
+answersTo n [] xs = []
+answersTo n (c ∷ cs) [] = []
+answersTo n (c ∷ cs) (a ∷ xs) = cond (eqb (c .client) n) (a ∷ answersTo n cs xs) (answersTo n cs xs)
+
+-- '8, count 0, the block as it came'
+abbrev pub notOpen : Request → Answer
+notOpen q = record { number = 8; count = 0; block = q .block }
+
+-- slot i's standalone console: 'at first that seat's port and the starting screen', and 'fed the calls with that seat's number'
+abbrev pub consoleOf : Multiplexer → List ℕ → List Call → ℕ → Standalone
+consoleOf m s cs i = standalone (slotAt m i .port) s (requestsOf (slotAt m i .client) cs)
+
+-- ---- the demand, for one list of calls
+pub record Isolated (f : Server) (m : Multiplexer) (s : List ℕ) (cs : List Call) : Type 0 where
+  -- 'the cells of each open bench's pane, ..
+  pub cells : (i : ℕ) → Open m i → Agree (pane m i) (serveAll f m s cs .screen) (consoleOf m s cs i .screen)
+  -- .. its port ..
+  pub ports : (i : ℕ) → Open m i → slotAt (serveAll f m s cs .multiplexer) i ≡ record { client = slotAt m i .client; port = consoleOf m s cs i .port }
+  -- .. and the answer to each of its calls are exactly those of a lone bench'
+  pub answers : (i : ℕ) → Open m i → answersTo (slotAt m i .client) cs (serveAll f m s cs .answers) ≡ consoleOf m s cs i .answers
+  -- each call has one answer
+  pub each-answered : length (serveAll f m s cs .answers) ≡ length cs
+  -- 'a call for a number that isn't open answers 8 ..
+  pub answers-8 : (n : ℕ) → Closed m n → answersTo n cs (serveAll f m s cs .answers) ≡ map notOpen (requestsOf n cs)
+  -- .. and changes nothing', wherever it stands in the list
+  pub changes-nothing : (before after : List Call) (c : Call) → cs ≡ before ++ (c ∷ after) → Closed m (c .client)
+      → (serveAll f m s (before ++ (c ∷ [])) .multiplexer ≡ serveAll f m s before .multiplexer) × (serveAll f m s (before ++ (c ∷ [])) .screen ≡ serveAll f m s before .screen)
+  -- 'cells in no open pane ..
+  pub outside : (k : ℕ) → ((i : ℕ) → Open m i → Inside (pane m i) k → ⊥) → getD (serveAll f m s cs .screen) k 0 ≡ getD s k 0
+  -- .. and free seats are as at the start'
+  pub free : (i : ℕ) → Free m i → slotAt (serveAll f m s cs .multiplexer) i ≡ slotAt m i
+  -- the multiplexer is valid again, with four slots, and the screen as long as it was
+  pub still-valid : validMultiplexer (serveAll f m s cs .multiplexer) ≡ true
+  pub still-long : length (serveAll f m s cs .screen) ≡ 1920
+
+-- 'the same wall, the same screen and the same answer to each call'
+pub record SameEnd (f : Server) (m : Multiplexer) (s : List ℕ) (cs ds : List Call) : Type 0 where
+  pub multiplexer : serveAll f m s cs .multiplexer ≡ serveAll f m s ds .multiplexer
+  pub screen : serveAll f m s cs .screen ≡ serveAll f m s ds .screen
+  pub answers : (n : ℕ) → answersTo n cs (serveAll f m s cs .answers) ≡ answersTo n ds (serveAll f m s ds .answers)
+
+-- demand 3: 'any sound wall, any screen of 1,920 cells and any list of writes, block returns and block restores by bench number, refused ones included'
+pub record Isolation (f : Server) : Type 0 where
+  pub isolated : (m : Multiplexer) (s : List ℕ) (cs : List Call) → validMultiplexer m ≡ true → length s ≡ 1920 → Isolated f m s cs
+  -- 'any two such lists from the same start that hold, for each number, the same calls in the same order'
+  pub same-end : (m : Multiplexer) (s : List ℕ) (cs ds : List Call) → validMultiplexer m ≡ true → length s ≡ 1920
+      → ((n : ℕ) → requestsOf n cs ≡ requestsOf n ds) → SameEnd f m s cs ds

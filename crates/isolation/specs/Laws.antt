@@ -1,0 +1,118 @@
+-- What is claimed of the calls by client, each on its own: when each status is given; a stream cut in two; a block put straight back. Assumes nothing.
+use Prim.Native.Nat.{ℕ, _+_, _≤_, _<_}
+use mathlib.Core.Path.{_≡_}
+use mathlib.Core.List.{List, [], _∷_}
+use lib.ListN.{length, getD}
+use Rattle.screen.specs.declared.Rect.{Rect}
+use Rattle.screen.specs.Cells.{Inside}
+use Rattle.block.specs.Block.{widthOf, heightOf, blockLength}
+use Rattle.port.specs.Valid.{Legal}
+use Rattle.slots.specs.declared.Multiplexer.{Multiplexer}
+use Rattle.multiplexer.specs.declared.Status.{Status}
+use Rattle.multiplexer.specs.declared.Status.the-variants.{Done, ScreenLength, Invalid, ClientZero, PaneIllegal, ClientTaken, PaneShared, Full, NotOpen, BlockTooShort, BlockMismatch}
+use Rattle.slots.specs.State.{slotAt, pane, Open, Free, Closed}
+use Rattle.slots.specs.Valid.{ValidMultiplexer}
+use Rattle.multiplexer.specs.Calls.{numberOf, Reply, writeCall, returnCall, restoreCall, openCall, closeCall}
+
+-- ---- when each status is given
+abbrev pub viewport : Multiplexer → ℕ → Rect
+viewport m i = slotAt m i .port .view .viewport
+
+-- 'length is .. exactly 2 + width x height', and 'the first two bytes are .. the viewport's width and height'
+pub record Fits (r : Rect) (block : List ℕ) : Type 0 where
+  pub size : length block ≡ blockLength r
+  pub width : getD block 0 0 ≡ widthOf r
+  pub height : getD block 1 0 ≡ heightOf r
+
+-- paper 01, 'What comes back': the table's 'when', for multiplexer m, screen s, client n, pane r and a lent block; each call has some of them
+abbrev pub Applies : Multiplexer → List ℕ → ℕ → Rect → List ℕ → Status → Type 0
+Applies m s n r block Done = ⊥
+-- 'the lent screen is not exactly 1,920 bytes'
+Applies m s n r block ScreenLength = length s ≡ 1920 → ⊥
+-- 'the .. wall handed in is not sound'
+Applies m s n r block Invalid = ValidMultiplexer m → ⊥
+-- 'opening with bench number 0'
+Applies m s n r block ClientZero = n ≡ 0
+-- 'opening with a pane that is not legal'
+Applies m s n r block PaneIllegal = Legal r → ⊥
+-- 'opening with a number that is open already'
+Applies m s n r block ClientTaken = (i : ℕ) × Open m i × (slotAt m i .client ≡ n)
+-- 'opening with a pane that shares a cell with an open pane'
+Applies m s n r block PaneShared = (i : ℕ) × Open m i × ((k : ℕ) × Inside (pane m i) k × Inside r k)
+-- 'opening while four seats are open'
+Applies m s n r block Full = (i : ℕ) → Free m i → ⊥
+-- 'no open seat has this number (0 never has)'
+Applies m s n r block NotOpen = Closed m n
+-- 'block return: lent block shorter than 2 + width x height'
+Applies m s n r block BlockTooShort = (i : ℕ) × Open m i × (slotAt m i .client ≡ n) × (length block < blockLength (viewport m i))
+-- 'block restore: length is not exactly 2 + width x height, or the first two bytes are not the viewport's width and height'
+Applies m s n r block BlockMismatch = (i : ℕ) × Open m i × (slotAt m i .client ≡ n) × (Fits (viewport m i) block → ⊥)
+
+-- 'each is given exactly then'
+pub record Exactly (given status : Status) (P : Type 0) : Type 0 where
+  pub only-when : given ≡ status → P
+  pub whenever : P → given ≡ status
+
+-- each status exactly when its rule applies and none before it does, and 0 exactly when none does
+abbrev pub Each : (Status → Type 0) → Type 0 → List Status → Status → Type 0
+Each applies NoneBefore [] given = Exactly given Done NoneBefore
+Each applies NoneBefore (x ∷ xs) given = Exactly given x (NoneBefore × applies x) × Each applies (NoneBefore × (applies x → ⊥)) xs given
+
+-- the statuses' numbers rise
+abbrev pub Rising : ℕ → List Status → Type 0
+Rising k [] = Unit {0}
+Rising k (x ∷ xs) = (k < numberOf x) × Rising (numberOf x) xs
+
+-- 'where several apply, the smallest number that the call can give is given'
+pub record Answers (applies : Status → Type 0) (can : List Status) (given : Status) : Type 0 where
+  pub rising : Rising 0 can
+  pub each : Each applies (Unit {0}) can given
+
+-- demand 1: 'every call comes back, with 0 or with a refusal number given exactly when its rule says'.
+-- 'Open: 1 to 7. Close: 2, 8. Write: 1, 2, 8. Return: 1, 2, 8, 9. Restore: 1, 2, 8, 10.'
+pub record Statuses (m : Multiplexer) (s : List ℕ) (n : ℕ) (r : Rect) (block : List ℕ) : Type 0 where
+  pub opening : Answers (Applies m s n r block) (ScreenLength ∷ Invalid ∷ ClientZero ∷ PaneIllegal ∷ ClientTaken ∷ PaneShared ∷ Full ∷ []) (openCall m s n r .status)
+  pub closing : Answers (Applies m s n r block) (Invalid ∷ NotOpen ∷ []) (closeCall m n .status)
+  pub writing : Answers (Applies m s n r block) (ScreenLength ∷ Invalid ∷ NotOpen ∷ []) (writeCall m s n block .status)
+  pub returning : Answers (Applies m s n r block) (ScreenLength ∷ Invalid ∷ NotOpen ∷ BlockTooShort ∷ []) (returnCall m s n block .status)
+  pub restoring : Answers (Applies m s n r block) (ScreenLength ∷ Invalid ∷ NotOpen ∷ BlockMismatch ∷ []) (restoreCall m s n block .status)
+
+-- of a valid multiplexer and 1,920 cells: 0 but for 8, 9, 10 and, at opening, 3 to 7, by the same rules
+pub record ValidStatuses (m : Multiplexer) (s : List ℕ) (n : ℕ) (r : Rect) (block : List ℕ) : Type 0 where
+  pub opening : Answers (Applies m s n r block) (ClientZero ∷ PaneIllegal ∷ ClientTaken ∷ PaneShared ∷ Full ∷ []) (openCall m s n r .status)
+  pub closing : Answers (Applies m s n r block) (NotOpen ∷ []) (closeCall m n .status)
+  pub writing : Answers (Applies m s n r block) (NotOpen ∷ []) (writeCall m s n block .status)
+  pub returning : Answers (Applies m s n r block) (NotOpen ∷ BlockTooShort ∷ []) (returnCall m s n block .status)
+  pub restoring : Answers (Applies m s n r block) (NotOpen ∷ BlockMismatch ∷ []) (restoreCall m s n block .status)
+
+-- ---- at an open slot: client n's calls go to slot i of a valid multiplexer, with 1,920 cells
+pub record GoesTo (m : Multiplexer) (s : List ℕ) (n i : ℕ) : Type 0 where
+  pub valid : ValidMultiplexer m
+  pub len : length s ≡ 1920
+  pub is-open : Open m i
+  pub client : slotAt m i .client ≡ n
+
+-- 0 but for 9 and 10, by the slot's viewport
+pub record SlotStatuses (m : Multiplexer) (s : List ℕ) (n : ℕ) (block : List ℕ) (i : ℕ) : Type 0 where
+  pub close-done : closeCall m n .status ≡ Done
+  pub write-done : writeCall m s n block .status ≡ Done
+  pub return-done : Exactly (returnCall m s n block .status) Done (blockLength (viewport m i) ≤ length block)
+  pub return-short : Exactly (returnCall m s n block .status) BlockTooShort (length block < blockLength (viewport m i))
+  pub restore-done : Exactly (restoreCall m s n block .status) Done (Fits (viewport m i) block)
+  pub restore-mismatch : Exactly (restoreCall m s n block .status) BlockMismatch (Fits (viewport m i) block → ⊥)
+
+-- ---- demand 2, of writes, and of a return and a restore; the second gets the multiplexer and the screen that the first left
+-- 'cutting a stream anywhere, even inside a command, gives the same end and bell counts that add up to the same'
+pub record SameCut (first second whole : Reply) : Type 0 where
+  pub first-status : first .status ≡ whole .status
+  pub second-status : second .status ≡ whole .status
+  pub multiplexer : second .multiplexer ≡ whole .multiplexer
+  pub screen : second .screen ≡ whole .screen
+  pub count : first .count + second .count ≡ whole .count
+
+-- 'a port's block of text, handed out and put straight back, changes nothing'
+pub record RoundTrip (m : Multiplexer) (s : List ℕ) (returned again : Reply) : Type 0 where
+  pub returned-done : returned .status ≡ Done
+  pub restored-done : again .status ≡ Done
+  pub multiplexer : again .multiplexer ≡ m
+  pub screen : again .screen ≡ s

@@ -1,0 +1,66 @@
+// When a multiplexer is valid. The tests are joined without branches, as the definitions are.
+use super::Multiplexer;
+use super::Slot;
+use port::Port;
+use port::valid::is_zero_view;
+use port::valid::unused_zero;
+use port::valid::valid_port;
+use port::valid::zero_rect;
+use screen::Rect;
+ghost use mathlib.Core.Path.{_≡_};
+ghost use Rattle.slots.specs.Panes.{sharesCell};
+ghost use Rattle.slots.specs.Valid as rules;
+
+// Two rectangles share a cell.
+pub fn shares_cell(r: Rect, q: Rect) -> bool
+    ensures { λ b. ⌜ b ≡ sharesCell r q ⌝ }
+{
+    ((r.left <= q.right) & (q.left <= r.right)) & ((r.top <= q.bottom) & (q.top <= r.bottom))
+}
+
+// Every field 0 or false.
+fn is_zero_port(p: Port) -> bool
+    ensures { λ b. ⌜ b ≡ rules.isZeroPort p ⌝ }
+{
+    let gathered = p.gathered;
+    (zero_rect(p.home) & (is_zero_view(p.view) & is_zero_view(p.saved)))
+        & (!p.hassaved & ((p.waiting == 0) & (unused_zero(gathered, 0) & (p.count == 0))))
+}
+
+fn valid_slot(x: Slot) -> bool
+    ensures { λ b. ⌜ b ≡ rules.validSlot x ⌝ }
+{
+    if x.client == 0 {
+        return is_zero_port(x.port);
+    }
+    valid_port(x.port)
+}
+
+// Two slots, where both are open, have different clients and panes that share no cell.
+fn compatible(x: Slot, y: Slot) -> bool
+    ensures { λ b. ⌜ b ≡ rules.compatible x y ⌝ }
+{
+    let p = x.port;
+    let q = y.port;
+    ((x.client == 0) | (y.client == 0)) | (!(x.client == y.client) & !shares_cell(p.home, q.home))
+}
+
+fn valid_slots(m: Multiplexer) -> bool
+    ensures { λ b. ⌜ b ≡ rules.validSlots m ⌝ }
+{
+    let slots = m.slots;
+    let a = slots[0];
+    let b = slots[1];
+    let c = slots[2];
+    let d = slots[3];
+    ((valid_slot(a) & valid_slot(b)) & (valid_slot(c) & valid_slot(d)))
+        & ((compatible(a, b) & (compatible(a, c) & compatible(a, d)))
+            & ((compatible(b, c) & compatible(b, d)) & compatible(c, d)))
+}
+
+// The paper's 'sound'.
+pub fn valid_multiplexer(m: Multiplexer) -> bool
+    ensures { λ b. ⌜ b ≡ rules.validMultiplexer m ⌝ }
+{
+    valid_slots(m)
+}

@@ -1,0 +1,58 @@
+//! The boundary library, linked in. Its functions are proved, but what it
+//! assumes of its caller lies outside any proof: each pointer is valid
+//! for the length beside it, and no slice that may be written overlaps
+//! another one. Rust's borrow rules give both to the functions here.
+
+extern "C" {
+    fn combthrift_run_script(
+        script: *const u8,
+        script_length: usize,
+        screen: *mut u8,
+        screen_length: usize,
+        answers: *mut u8,
+        answers_length: usize,
+    ) -> usize;
+
+    fn combthrift_run_stream(
+        bytes: *const u8,
+        bytes_length: usize,
+        size: usize,
+        screen: *mut u8,
+        screen_length: usize,
+        answer: *mut u8,
+        answer_length: usize,
+    ) -> usize;
+}
+
+/// Runs a script on a fresh wall and the lent screen. The answers go to
+/// the front of `answers`, as many as fit. Gives their length.
+pub fn run_script(script: &[u8], screen: &mut [u8], answers: &mut [u8]) -> usize {
+    unsafe {
+        combthrift_run_script(
+            script.as_ptr(),
+            script.len(),
+            screen.as_mut_ptr(),
+            screen.len(),
+            answers.as_mut_ptr(),
+            answers.len(),
+        )
+    }
+}
+
+/// Hands a stream to a fresh plain console and the lent screen, in writes
+/// of at most `size` bytes. The answer is seven bytes: the last status,
+/// all bells as four bytes, low byte first, the cursor's column and line.
+/// Gives 7; or 0, with nothing done, if fewer bytes are lent for it.
+pub fn run_stream(bytes: &[u8], size: usize, screen: &mut [u8], answer: &mut [u8]) -> usize {
+    unsafe {
+        combthrift_run_stream(
+            bytes.as_ptr(),
+            bytes.len(),
+            size,
+            screen.as_mut_ptr(),
+            screen.len(),
+            answer.as_mut_ptr(),
+            answer.len(),
+        )
+    }
+}

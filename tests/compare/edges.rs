@@ -1,10 +1,10 @@
-//! The library's stream call at its edges: an answer lent too short or
+//! The library's stream calls at their edges: an answer lent too short or
 //! longer than needed, and screens of another length.
 
 use crate::console::write;
 use crate::library::run_stream;
 use crate::port::{Port, BLANK, SCREEN_SIZE};
-use crate::subjects::SIZES;
+use crate::subjects::FEEDS;
 
 /// Lengths of screens that are refused.
 pub const OTHER_LENGTHS: [usize; 5] = [0, 1, SCREEN_SIZE - 1, SCREEN_SIZE + 1, 2 * SCREEN_SIZE];
@@ -17,39 +17,47 @@ const LENT: u8 = 0x5A;
 
 pub fn short_answers() -> Vec<String> {
     let mut faults = Vec::new();
-    for lent in 0..7 {
-        let mut screen = [BLANK; SCREEN_SIZE];
-        let mut answer = vec![LENT; lent];
-        let length = run_stream(&STREAM, 2, &mut screen, &mut answer);
-        if length != 0 || screen != [BLANK; SCREEN_SIZE] || answer != vec![LENT; lent] {
-            faults.push(format!("an answer of {} bytes is not refused", lent));
+    for feed in FEEDS {
+        for lent in 0..7 {
+            let mut screen = [BLANK; SCREEN_SIZE];
+            let mut answer = vec![LENT; lent];
+            let length = run_stream(&STREAM, feed, &mut screen, &mut answer);
+            if length != 0 || screen != [BLANK; SCREEN_SIZE] || answer != vec![LENT; lent] {
+                faults.push(format!("{:?}: an answer of {} bytes is not refused", feed, lent));
+            }
         }
     }
     faults
 }
 
 pub fn longer_answer() -> Vec<String> {
-    let mut screen = [BLANK; SCREEN_SIZE];
-    let mut answer = [LENT; 9];
-    let length = run_stream(&STREAM, 2, &mut screen, &mut answer);
-    if (length, answer) == (7, [0, 1, 0, 0, 0, 5, 6, LENT, LENT]) {
-        return Vec::new();
+    let mut faults = Vec::new();
+    for feed in FEEDS {
+        let mut screen = [BLANK; SCREEN_SIZE];
+        let mut answer = [LENT; 9];
+        let length = run_stream(&STREAM, feed, &mut screen, &mut answer);
+        if (length, answer) != (7, [0, 1, 0, 0, 0, 5, 6, LENT, LENT]) {
+            faults.push(format!(
+                "{:?}: {} and the answer {:02x?} of 9 lent bytes",
+                feed, length, answer
+            ));
+        }
     }
-    vec![format!("{} and the answer {:02x?} of 9 lent bytes", length, answer)]
+    faults
 }
 
 pub fn other_screens() -> Vec<String> {
     let mut faults = Vec::new();
     for length in OTHER_LENGTHS {
-        for size in SIZES {
+        for feed in FEEDS {
             let mut screen = vec![BLANK; length];
             let mut answer = [LENT; 7];
-            let given = run_stream(&STREAM, size, &mut screen, &mut answer);
+            let given = run_stream(&STREAM, feed, &mut screen, &mut answer);
             let status = write(Port::fresh(), &mut vec![BLANK; length], &STREAM).0;
             if given != 7 || answer != [status, 0, 0, 0, 0, 0, 0] || screen != vec![BLANK; length] {
                 faults.push(format!(
-                    "a screen of {} bytes and writes of {}: {} and the answer {:02x?}",
-                    length, size, given, answer
+                    "a screen of {} bytes, {:?}: {} and the answer {:02x?}",
+                    length, feed, given, answer
                 ));
             }
         }

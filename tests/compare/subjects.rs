@@ -1,8 +1,8 @@
 //! What is compared with the reference on streams: the console program,
-//! and the library with writes of several sizes.
+//! and the library with writes of several sizes and by its one-byte call.
 
 use crate::expected::{print, read};
-use crate::library::run_stream;
+use crate::library::{run_stream, Feed};
 use crate::port::{Cursor, BLANK, SCREEN_SIZE};
 use crate::program::{self, Fault};
 use std::ffi::OsStr;
@@ -10,18 +10,23 @@ use std::fmt;
 
 pub enum Subject<'a> {
     Program(&'a OsStr),
-    /// The library with writes of at most so many bytes.
-    Library(usize),
+    Library(Feed),
 }
 
-/// Sizes of the library's writes: 0 counts as 1, and the last cuts no
-/// stream.
-pub const SIZES: [usize; 5] = [0, 1, 2, 7, usize::MAX];
+/// How the library is fed. The largest write cuts no stream.
+pub const FEEDS: [Feed; 6] = [
+    Feed::Writes(0),
+    Feed::Writes(1),
+    Feed::Writes(2),
+    Feed::Writes(7),
+    Feed::Writes(usize::MAX),
+    Feed::Bytes,
+];
 
-/// The program and the library at each size.
+/// The program, and the library fed in each way.
 pub fn subjects(console: &OsStr) -> Vec<Subject<'_>> {
     let mut subjects = vec![Subject::Program(console)];
-    subjects.extend(SIZES.map(Subject::Library));
+    subjects.extend(FEEDS.map(Subject::Library));
     subjects
 }
 
@@ -31,7 +36,7 @@ impl Subject<'_> {
     pub fn output(&self, input: &[u8]) -> Result<Vec<u8>, Fault> {
         match self {
             Subject::Program(path) => program::run(path, input),
-            Subject::Library(size) => library_output(read(input), *size),
+            Subject::Library(feed) => library_output(read(input), *feed),
         }
     }
 }
@@ -40,16 +45,17 @@ impl fmt::Display for Subject<'_> {
     fn fmt(&self, to: &mut fmt::Formatter<'_>) -> fmt::Result {
         match self {
             Subject::Program(_) => write!(to, "console"),
-            Subject::Library(usize::MAX) => write!(to, "library with one write"),
-            Subject::Library(size) => write!(to, "library with writes of {}", size),
+            Subject::Library(Feed::Writes(usize::MAX)) => write!(to, "library with one write"),
+            Subject::Library(Feed::Writes(size)) => write!(to, "library with writes of {}", size),
+            Subject::Library(Feed::Bytes) => write!(to, "library with one-byte calls"),
         }
     }
 }
 
-fn library_output(bytes: &[u8], size: usize) -> Result<Vec<u8>, Fault> {
+fn library_output(bytes: &[u8], feed: Feed) -> Result<Vec<u8>, Fault> {
     let mut screen = [BLANK; SCREEN_SIZE];
     let mut answer = [0; 7];
-    let length = run_stream(bytes, size, &mut screen, &mut answer);
+    let length = run_stream(bytes, feed, &mut screen, &mut answer);
     if length != 7 {
         return Err(Fault::Failed(format!("it gives {} and not 7", length)));
     }

@@ -1,4 +1,4 @@
-// Runs from Rust, for tests and benchmarks: a script of calls by client, or a plain stream in pieces. Scripts, streams and answers are bytes.
+// Runs from Rust, for tests and benchmarks: a script of calls by client, or a plain stream in pieces or by the one-byte call. Scripts, streams and answers are bytes.
 // No state crosses this boundary. What it assumes of its caller is outside the proofs: each pointer is good for its length, and lent slices do not overlap.
 mod answer;
 mod script;
@@ -20,6 +20,7 @@ use script::next_call;
 use script::pane_of;
 use session::Session;
 use session::hand_over_all;
+use session::hand_over_bytes;
 use slots::Multiplexer;
 ghost use Prim.Native.Nat.{_+_, _≤_, _<_, min};
 ghost use mathlib.Core.Path.{_≡_};
@@ -140,6 +141,26 @@ pub extern "C" fn combthrift_run_script(
     }
 }
 
+// A session's end as an answer: the status, the bells as four bytes, low byte first, the cursor's column and its line.
+fn put_end(screen: &mut [u8], end: Session, answer: &mut [u8])
+    requires { ⌜ 7 ≤ length (now answer) ⌝ }
+{
+    // An empty write is judged as the others were, and changes nothing.
+    let last = console::write(end.port, screen, &answer[..0]);
+    let status = last.status;
+    let view = end.port.view;
+    put_head(answer, console::status_number(status), end.bells);
+    answer[5] = view.column;
+    answer[6] = view.line;
+}
+
+fn fresh_session() -> Session {
+    Session {
+        port: fresh_console(),
+        bells: 0,
+    }
+}
+
 fn at_least_1(size: usize) -> usize
     ensures { λ r. ⌜ 0 < r ⌝ }
 {
@@ -149,8 +170,8 @@ fn at_least_1(size: usize) -> usize
     size
 }
 
-// Hands a stream to a fresh plain console in writes of at most size bytes; 0 counts as 1. The answer is the status, the bells as four bytes, low byte first,
-// the cursor's column and its line. The result is its length, or 0 where answer is shorter and nothing was done.
+// Hands a stream to a fresh plain console in writes of at most size bytes; 0 counts as 1.
+// The result is the length of the answer, or 0 where there is no room for it and nothing was done.
 #[no_mangle]
 pub extern "C" fn combthrift_run_stream(
     bytes: &[u8],
@@ -161,17 +182,22 @@ pub extern "C" fn combthrift_run_stream(
     if answer.len() < 7 {
         return 0;
     }
-    let start = Session {
-        port: fresh_console(),
-        bells: 0,
-    };
-    let end = hand_over_all(screen, start, bytes, at_least_1(size));
-    // An empty write is judged as the others were, and changes nothing.
-    let last = console::write(end.port, screen, &bytes[..0]);
-    let status = last.status;
-    let view = end.port.view;
-    put_head(answer, console::status_number(status), end.bells);
-    answer[5] = view.column;
-    answer[6] = view.line;
+    let end = hand_over_all(screen, fresh_session(), bytes, at_least_1(size));
+    put_end(screen, end, answer);
+    7
+}
+
+// The same by the one-byte call.
+#[no_mangle]
+pub extern "C" fn combthrift_run_bytes(
+    bytes: &[u8],
+    screen: &mut [u8],
+    answer: &mut [u8],
+) -> usize {
+    if answer.len() < 7 {
+        return 0;
+    }
+    let end = hand_over_bytes(screen, fresh_session(), bytes);
+    put_end(screen, end, answer);
     7
 }

@@ -9,7 +9,7 @@ use lib.ListN.{length, take, drop, getD, length-append, length-drop}
 use borrow.Author.Tests.{eqb-true, eq-eqb, ne-eqb, lt-ltb, le-ltb}
 use Rattle.screen.specs.declared.Rect.{Rect}
 use Rattle.screen.specs.Cells.{OnScreen}
-use Rattle.screen.proofs.Tests.{and-left}
+use Rattle.screen.proofs.Tests.{and-left, by-test}
 use Rattle.block.specs.Block.{widthOf, heightOf, blockLength, blockFits, blockOf, restored, rowStart, rowCells}
 use Rattle.block.proofs.Rows.{length-block, row-fits}
 use Rattle.port.specs.declared.Port.{Port}
@@ -17,11 +17,12 @@ use Rattle.port.specs.Valid.{valid, Valid}
 use Rattle.port.specs.Stream.{stream}
 use Rattle.port.proofs.Validity.{decides-valid}
 use Rattle.console.specs.declared.Answer.{Answer}
+use Rattle.console.specs.declared.ByteAnswer.{ByteAnswer}
 use Rattle.console.specs.declared.Judged.{Judged}
 use Rattle.console.specs.declared.Judged.the-variants.{Accepted, Refused}
 use Rattle.console.specs.declared.Status.{Status}
 use Rattle.console.specs.declared.Status.the-variants.{Done, ScreenLength, InvalidPort, BlockTooShort, BlockMismatch}
-use Rattle.console.specs.Calls.{Reply, refusal, written, blockReturned, blockRestored, judged, writeCall, returnCall, restoreCall, rowCall, judgement, answerOf, Replies}
+use Rattle.console.specs.Calls.{Reply, refusal, written, blockReturned, blockRestored, judged, writeCall, returnCall, restoreCall, rowCall, judgement, answerOf, Replies, RepliesInPlace}
 use Rattle.executor.specs.Carry.{Carried}
 use Rattle.executor.proofs.Carrying.{viewport-on-screen}
 
@@ -131,6 +132,14 @@ module _ (p : Port) (s : List ℕ) (j : Judged) (is : j ≡ judgement p (length 
   replies-mismatch block fits r e k h a =
       subst (λ (x : Reply). Replies x r s block) (sym (accepted-call blockRestored block e ∙ simp (sym k ∙ h)))
       (by-answer _ r _ _ _ _ _ a refl refl refl refl refl)
+
+-- an answer in place, put together with its port: a write leaves its stream as it came, refused or not
+pub replies-by-value : (p : Port) (s bytes : List ℕ) (b : ByteAnswer) (q : Port) (t : List ℕ) (r : Answer) → RepliesInPlace (writeCall p s bytes) b q t → r ≡ answerOf (b .status) q (b .count) → Replies (writeCall p s bytes) r t bytes
+unfolding judged written
+replies-by-value p s bytes b q t r d a = by-answer _ r _ _ _ _ _ a (d .status-is) (d .port-is) (d .count-is) (d .cells) kept
+  where
+    kept : bytes ≡ writeCall p s bytes .block
+    kept = by-test (λ (x : Reply). bytes ≡ x .block) (eqb (length s) 1920) (λ _. by-test (λ (x : Reply). bytes ≡ x .block) (valid p) (λ _. refl) (λ _. refl)) (λ _. refl)
 
 -- rows
 module _ (p : Port) (s : List ℕ) (j : Judged) (is : j ≡ judgement p (length s)) where

@@ -13,6 +13,7 @@ use Rattle.port.specs.Step.{Outcome}
 use Rattle.port.specs.Stream.{stream}
 use Rattle.block.specs.Block.{heightOf, blockLength, rowCells, blockOf, blockFits, restored}
 use Rattle.console.specs.declared.Answer.{Answer}
+use Rattle.console.specs.declared.ByteAnswer.{ByteAnswer}
 use Rattle.console.specs.declared.Judged.{Judged}
 use Rattle.console.specs.declared.Judged.the-variants.{Accepted, Refused}
 use Rattle.console.specs.declared.Status.{Status}
@@ -97,3 +98,10 @@ pub record Replies (reply : Reply) (answer : Answer) (screen block : List ℕ) :
   pub count-is : answer .count ≡ reply .count
   pub cells : screen ≡ reply .screen
   pub bytes : block ≡ reply .block
+
+-- what the one-byte call promises: it 'works on a port lent and changed where it lies, and means the same, number and count included, as a plain write of that byte by value'
+pub record RepliesInPlace (reply : Reply) (answer : ByteAnswer) (port : Port) (screen : List ℕ) : Type 0 where
+  pub status-is : answer .status ≡ reply .status
+  pub port-is : port ≡ reply .port
+  pub count-is : answer .count ≡ reply .count
+  pub cells : screen ≡ reply .screen

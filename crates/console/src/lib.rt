@@ -13,7 +13,8 @@ use port::state::fresh_port;
 use port::valid::valid_port;
 use screen::Rect;
 ghost use mathlib.Core.Path.{_≡_};
-ghost use Rattle.console.specs.Calls.{numberOf, freshConsole, writeCall, returnCall, restoreCall, rowCall, answerOf, judgement, Replies};
+ghost use mathlib.Core.List.{[], _∷_};
+ghost use Rattle.console.specs.Calls.{numberOf, freshConsole, writeCall, returnCall, restoreCall, rowCall, answerOf, judgement, Replies, RepliesInPlace};
 
 // Paper 01, 'What comes back', for the plain calls. Other crates have statuses of their own for the other numbers.
 pub enum Status {
@@ -108,6 +109,65 @@ pub fn write(p: Port, screen: &mut [u8], bytes: &[u8]) -> Answer
             done(written.port, written.bells)
         }
     }
+}
+
+// A write of one byte.
+pub fn write_byte(p: Port, screen: &mut [u8], byte: u8) -> Answer
+    ensures { λ r. ⌜ Replies (writeCall p (now (screen .entry)) (byte ∷ [])) r (now (screen .exit)) (byte ∷ []) ⌝ }
+{
+    let bytes = [byte; 1];
+    write(p, screen, &bytes)
+}
+
+// What the one-byte call hands back besides the port.
+pub struct ByteAnswer {
+    pub status: Status,
+    pub count: usize,
+}
+
+fn port_of(answer: Answer) -> Port
+    ensures { λ r. ⌜ r ≡ answer .port ⌝ }
+{
+    answer.port
+}
+
+fn without_port(answer: Answer) -> ByteAnswer
+    ensures { λ r. ⌜ (r .status ≡ answer .status) × (r .count ≡ answer .count) ⌝ }
+{
+    let status = answer.status;
+    ByteAnswer {
+        status,
+        count: answer.count,
+    }
+}
+
+// The one-byte call, for hosts that keep one port for a session: the port is changed where it lies.
+pub fn put_byte(port: &mut Port, screen: &mut [u8], byte: u8) -> ByteAnswer
+    ensures { λ r. ⌜ RepliesInPlace (writeCall (now (port .entry)) (now (screen .entry)) (byte ∷ [])) r (now (port .exit)) (now (screen .exit)) ⌝ }
+{
+    let answer = write_byte(*port, screen, byte);
+    *port = port_of(answer);
+    without_port(answer)
+}
+
+fn with_port(answer: ByteAnswer, port: Port) -> Answer
+    ensures { λ r. ⌜ r ≡ answerOf (answer .status) port (answer .count) ⌝ }
+{
+    let status = answer.status;
+    Answer {
+        status,
+        port,
+        count: answer.count,
+    }
+}
+
+// The one-byte call on a port in a local: the same by value, for callers that keep no reference.
+pub fn put_byte_by_value(p: Port, screen: &mut [u8], byte: u8) -> Answer
+    ensures { λ r. ⌜ Replies (writeCall p (now (screen .entry)) (byte ∷ [])) r (now (screen .exit)) (byte ∷ []) ⌝ }
+{
+    let mut port = p;
+    let answer = put_byte(&mut port, screen, byte);
+    with_port(answer, port)
 }
 
 // Hands the viewport's text out: the block fills the front of the lent one. The count is of its bytes.

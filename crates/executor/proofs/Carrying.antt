@@ -1,29 +1,31 @@
 -- A plan is carried out, a byte, and a stream byte after byte. Assumes nothing.
 use Prim.Native.Nat.{ℕ, zero, suc, _+_, _≤_, _<_}
 use mathlib.Core.Path.{_≡_, refl, sym, ap, _∙_, subst}
-use mathlib.Core.Bool.{cond}
+use mathlib.Core.Bool.{true, false, cond, _&&_}
 use mathlib.Core.Logic.{⊎-elim}
 use mathlib.Core.List.{List, [], _∷_, _++_}
 use native.Mathlib.Omega.{arith}
 use native.Mathlib.Nat.{add-assoc, add-zero, zero-add}
 use native.Mathlib.Numerals.{add-one}
-use lib.Dec.{eqb}
+use lib.Dec.{leb, eqb}
+use borrow.Author.Tests.{eqb-true, eq-eqb, leb-true, leb-false}
 use lib.ListN.{length, drop, getD}
 use lib.Seq.{drop-cons}
 use Rattle.screen.specs.Cells.{OnScreen}
 use Rattle.screen.specs.Edit.{draw}
-use Rattle.screen.proofs.Tests.{by-test}
+use Rattle.screen.proofs.Tests.{by-test, and-left, and-right}
 use Rattle.screen.proofs.Local.{draw-append}
 use Rattle.charset.specs.declared.Mode.{Mode}
 use Rattle.charset.specs.Stored.{storedByte}
 use Rattle.port.specs.declared.View.{View}
 use Rattle.port.specs.declared.Port.{Port}
 use Rattle.port.specs.Valid.{parameters, Valid}
-use Rattle.port.specs.Codes.{modeOf, spaces}
-use Rattle.port.specs.Step.{Outcome, withView, step}
+use Rattle.port.specs.Codes.{modeOf, printByte, print, spaces}
+use Rattle.port.specs.Step.{Outcome, withView, onView, step}
 use Rattle.port.specs.Stream.{stream}
 use Rattle.port.proofs.Steps.{keeps-step}
 use Rattle.port.proofs.Bells.{one-bell}
+use Rattle.port.proofs.Prints.{step-prints}
 use Rattle.view.specs.Plan.{changeList}
 use Rattle.planner.specs.declared.Plan.{Plan}
 use Rattle.planner.specs.Plan.{carriedOut}
@@ -87,14 +89,37 @@ few-gathered p h =
 pub stored-as : {x : ℕ} (v : View) (mode : Mode) (code : ℕ) → x ≡ storedByte mode code → mode ≡ modeOf v → x ≡ storedByte (modeOf v) code
 stored-as v mode code e k = e ∙ ap (λ (z : Mode). storedByte z code) k
 
+step-on-screen : (p : Port) → Valid p → (b : ℕ) → AllOnScreen (step p b .edits)
+step-on-screen p h b = on-screen (p .view .viewport) (h .view .legal .right-in) (h .view .legal .bottom-in) (step p b .edits) (keeps-step p h b .edits)
+
+-- a byte by its plan
 module _ (p : Port) (b : ℕ) (m : Plan) (plan : carriedOut m ≡ step p b) where
   pub plan-on-screen : Valid p → AllOnScreen (carriedOut m .edits)
-  plan-on-screen h =
-      subst (λ (o : Outcome). AllOnScreen (o .edits)) (sym plan)
-      (on-screen (p .view .viewport) (h .view .legal .right-in) (h .view .legal .bottom-in) (step p b .edits) (keeps-step p h b .edits))
+  plan-on-screen h = subst (λ (o : Outcome). AllOnScreen (o .edits)) (sym plan) (step-on-screen p h b)
 
   pub byte-carried : (q : Port) (n : ℕ) (s t : List ℕ) → Carried (carriedOut m) q n s t → Carried (step p b) q n s t
   byte-carried q n s t d = subst (λ (o : Outcome). Carried o q n s t) plan d
+
+-- a printing code, where nothing waits
+module _ (p : Port) (code byte : ℕ) (none : p .waiting ≡ 0) (big : 32 ≤ code) (is : byte ≡ storedByte (modeOf (p .view)) code) where
+  prints-byte : step p code ≡ onView p (printByte (p .view) byte)
+  unfolding print
+  prints-byte = step-prints p code none big ∙ ap (λ (x : ℕ). onView p (printByte (p .view) x)) (sym is)
+
+  pub code-on-screen : Valid p → AllOnScreen (printByte (p .view) byte .edits)
+  code-on-screen h = subst (λ (o : Outcome). AllOnScreen (o .edits)) prints-byte (step-on-screen p h code)
+
+  pub code-carried : (q : Port) (w : View) (s t : List ℕ) → Drew (printByte (p .view) byte) w s t → q ≡ withView p w → Carried (step p code) q 0 s t
+  code-carried q w s t d port =
+      subst (λ (o : Outcome). Carried o q 0 s t) (sym prints-byte) (record { port-is = port ∙ ap (withView p) (d .view); bells-are = refl; cells = d .cells })
+
+-- what the test for a printing code shows, `(waiting == 0) & (32 <= b)`
+pub is-printed : (p : Port) (b : ℕ) → (eqb (p .waiting) 0 && leb 32 b) ≡ true → (p .waiting ≡ 0) × (32 ≤ b)
+is-printed p b t = (eqb-true (p .waiting) 0 (and-left (eqb (p .waiting) 0) (leb 32 b) t), leb-true 32 b (and-right (eqb (p .waiting) 0) (leb 32 b) t))
+
+pub not-printed : (p : Port) (b : ℕ) → Valid p → (eqb (p .waiting) 0 && leb 32 b) ≡ false → parameters (p .waiting) ≤ 0 → b < 32
+not-printed p b h t few =
+    ⊎-elim (λ e. leb-false 32 b (rw (eq-eqb (p .waiting) 0 e) at t)) (λ some. absurd (omega arith)) (h .wait .known)
 
 -- the loop over a stream: what is left of it, done from here, is what was asked
 pub record Streaming (p₀ : Port) (bs s₀ : List ℕ) (i : ℕ) (p : Port) (rung : ℕ) (s : List ℕ) : Type 0 where

@@ -1,4 +1,4 @@
--- The loop that prints spaces: what is left of them, done from here, is what was asked. Assumes nothing.
+-- One byte printed; and the loop that prints spaces: what is left of them, done from here, is what was asked. Assumes nothing.
 use Prim.Native.Nat.{ℕ, zero, suc, _-_, _≤_, _<_}
 use mathlib.Core.Path.{_≡_, refl, sym, ap, _∙_, subst}
 use mathlib.Core.Bool.{_&&_}
@@ -6,7 +6,9 @@ use mathlib.Core.List.{List, _++_}
 use native.Mathlib.Omega.{arith}
 use lib.Dec.{ltb}
 use lib.ListN.{length}
-use Rattle.screen.specs.Edit.{draw}
+use Rattle.screen.specs.declared.Motion.the-variants.{Clear}
+use Rattle.screen.specs.Cells.{cellAt}
+use Rattle.screen.specs.Edit.{edited, draw}
 use Rattle.screen.proofs.Tests.{by-test}
 use Rattle.screen.proofs.Local.{draw-append}
 use Rattle.charset.specs.declared.Mode.{Mode}
@@ -14,10 +16,25 @@ use Rattle.charset.specs.Stored.{storedByte}
 use Rattle.port.specs.declared.View.{View}
 use Rattle.port.specs.Effect.{Effect, andThen}
 use Rattle.port.specs.Codes.{moveCursorRight, advanced, storeCell, printByte, print, modeOf, spaces}
-use Rattle.view.specs.declared.ViewPlan.{ViewPlan}
-use Rattle.view.specs.Plan.{changeList, planEffect}
+use Rattle.view.specs.declared.Moved.{Moved}
+use Rattle.view.specs.Plan.{changeList, effectOf}
 use Rattle.executor.specs.Carry.{AllOnScreen, Drew}
 use Rattle.executor.proofs.Draws.{front-on-screen, back-on-screen, length-draw}
+
+-- a byte stored, and then what the cursor's move draws
+module _ (v : View) (byte : ℕ) (all : AllOnScreen (printByte v byte .edits)) where
+  pub cell-on-screen : (v .column ≤ 79) × (v .line ≤ 23)
+  unfolding printByte storeCell
+  cell-on-screen = (all .0 .right-in, all .0 .bottom-in)
+
+  pub move-on-screen : (m : Moved) → effectOf m ≡ advanced v → AllOnScreen (changeList (m .change))
+  unfolding printByte storeCell
+  move-on-screen m is = subst (λ (e : Effect). AllOnScreen (e .edits)) (sym is) (all .1)
+
+pub printed : (v : View) (byte : ℕ) (m : Moved) (s s₁ t : List ℕ) → effectOf m ≡ advanced v → s₁ ≡ edited (cellAt (v .column) (v .line)) Clear byte s → t ≡ draw (changeList (m .change)) s₁
+    → Drew (printByte v byte) (m .view) s t
+unfolding printByte storeCell draw
+printed v byte m s s₁ t is stored drawn = record { view = ap (λ (e : Effect). e .view) is; cells = drawn ∙ (λ i. draw (is i .edits) (stored i)) }
 
 -- printing keeps the mode
 mode-kept : (v : View) (byte : ℕ) → modeOf (printByte v byte .view) ≡ modeOf v
@@ -52,32 +69,22 @@ unfolding spaces
 one-less zero v h = absurd (omega arith)
 one-less (suc n) v h = let e : suc n - 1 ≡ n = omega arith in rw e
 
-module _ {byte asked : ℕ} {start : View} {s₀ : List ℕ} {left : ℕ} {v : View} {s : List ℕ} (r : Spacing byte asked start s₀ left v s) (some : 0 < left) (m : ViewPlan) (plan : planEffect m ≡ printByte v byte) where
-  -- the plan's space, and then those that are left
-  split : spaces left v ≡ andThen (planEffect m) (spaces (left - 1))
+module _ {byte asked : ℕ} {start : View} {s₀ : List ℕ} {left : ℕ} {v : View} {s : List ℕ} (r : Spacing byte asked start s₀ left v s) (some : 0 < left) where
+  split : spaces left v ≡ andThen (printByte v byte) (spaces (left - 1))
   unfolding print
-  split = one-less left v some ∙ ap (λ (b : ℕ). andThen (printByte v b) (spaces (left - 1))) (sym (r .stored)) ∙ ap (λ (e : Effect). andThen e (spaces (left - 1))) (sym plan)
+  split = one-less left v some ∙ ap (λ (b : ℕ). andThen (printByte v b) (spaces (left - 1))) (sym (r .stored))
 
-  all-edits : AllOnScreen ((changeList (m .first) ++ changeList (m .second)) ++ spaces (left - 1) (m .view) .edits)
+  all-edits : AllOnScreen (printByte v byte .edits ++ spaces (left - 1) (printByte v byte .view) .edits)
   all-edits = subst (λ (e : Effect). AllOnScreen (e .edits)) split (r .edits)
 
-  both-edits : AllOnScreen (changeList (m .first) ++ changeList (m .second))
-  both-edits = front-on-screen (planEffect m .edits) (spaces (left - 1) (m .view) .edits) all-edits
+  pub space-edits : AllOnScreen (printByte v byte .edits)
+  space-edits = front-on-screen (printByte v byte .edits) (spaces (left - 1) (printByte v byte .view) .edits) all-edits
 
-  pub first-edit : AllOnScreen (changeList (m .first))
-  first-edit = front-on-screen (changeList (m .first)) (changeList (m .second)) both-edits
-
-  pub second-edit : AllOnScreen (changeList (m .second))
-  second-edit = back-on-screen (changeList (m .first)) (changeList (m .second)) both-edits
-
-  pub spacing-again : (s₁ s₂ : List ℕ) → s₁ ≡ draw (changeList (m .first)) s → s₂ ≡ draw (changeList (m .second)) s₁ → Spacing byte asked start s₀ (left - 1) (m .view) s₂
-  spacing-again s₁ s₂ one two = record {
-    long = ap length both ∙ length-draw (planEffect m .edits) s (r .long);
-    stored = r .stored ∙ ap (λ (k : Mode). storedByte k 0x20) (sym (mode-kept v byte) ∙ ap (λ (e : Effect). modeOf (e .view)) (sym plan));
-    edits = back-on-screen (planEffect m .edits) (spaces (left - 1) (m .view) .edits) all-edits;
-    rest = λ w t d. r .rest w t (subst (λ (e : Effect). Drew e w s t) (sym split)
-        (record { view = d .view; cells = d .cells ∙ ap (draw (spaces (left - 1) (m .view) .edits)) both ∙ sym (draw-append (planEffect m .edits) (spaces (left - 1) (m .view) .edits) s) }));
-  }
-    where
-      both : s₂ ≡ draw (planEffect m .edits) s
-      both = two ∙ ap (draw (changeList (m .second))) one ∙ sym (draw-append (changeList (m .first)) (changeList (m .second)) s)
+  pub spacing-again : (w : View) (t : List ℕ) → Drew (printByte v byte) w s t → Spacing byte asked start s₀ (left - 1) w t
+  spacing-again w t d = subst (λ (x : View). Spacing byte asked start s₀ (left - 1) x t) (sym (d .view)) (record {
+    long = ap length (d .cells) ∙ length-draw (printByte v byte .edits) s (r .long);
+    stored = r .stored ∙ ap (λ (k : Mode). storedByte k 0x20) (sym (mode-kept v byte));
+    edits = back-on-screen (printByte v byte .edits) (spaces (left - 1) (printByte v byte .view) .edits) all-edits;
+    rest = λ x u e. r .rest x u (subst (λ (y : Effect). Drew y x s u) (sym split)
+        (record { view = e .view; cells = e .cells ∙ ap (draw (spaces (left - 1) (printByte v byte .view) .edits)) (d .cells) ∙ sym (draw-append (printByte v byte .edits) (spaces (left - 1) (printByte v byte .view) .edits) s) }));
+  })

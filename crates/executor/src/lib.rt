@@ -1,4 +1,4 @@
-// The executor: carries plans out on the screen, one byte after another.
+// The executor: prints, and carries plans out on the screen, one byte after another.
 use charset::stored_byte;
 use charset::table_copy;
 use planner::Plan;
@@ -7,16 +7,18 @@ use planner::saved::with_view;
 use port::Port;
 use port::View;
 use screen::apply;
+use screen::store_cell;
 use view::Change;
-use view::cursor::print_byte;
+use view::cursor::advance;
 use view::mode_of;
 ghost use mathlib.Core.Path.{_≡_};
 ghost use mathlib.Core.Bool.{cond};
+ghost use Prim.Native.Nat.{_≤_};
 ghost use lib.ListN.{length};
 ghost use Rattle.screen.specs.Edit.{draw};
 ghost use Rattle.charset.specs.Stored.{Agrees, storedByte};
 ghost use Rattle.port.specs.Valid.{Valid};
-ghost use Rattle.port.specs.Codes.{modeOf, spaces};
+ghost use Rattle.port.specs.Codes.{modeOf, printByte, spaces};
 ghost use Rattle.port.specs.Step.{step};
 ghost use Rattle.port.specs.Stream.{stream};
 ghost use Rattle.view.specs.Plan.{changeList};
@@ -40,6 +42,24 @@ fn draw_change(screen: &mut [u8], change: Change)
     }
 }
 
+// Prints a byte: it is stored at the cursor, and the cursor advances. This is all the printing there is.
+fn print_byte(screen: &mut [u8], v: View, byte: u8) -> View
+    requires { ⌜ AllOnScreen (printByte v byte .edits) × (length (now screen) ≡ 1920) ⌝ }
+    ensures { λ r. ⌜ Drew (printByte v byte) r (now (screen .entry)) (now (screen .exit)) ⌝ }
+{
+    store_cell(screen, v.column, v.line, byte);
+    let moved = advance(v);
+    let view = moved.view;
+    let change = moved.change;
+    match change {
+        Change::Nothing => view,
+        Change::Draw(edit) => {
+            apply(screen, edit);
+            view
+        }
+    }
+}
+
 // Prints spaces, each stored as byte.
 fn print_spaces(screen: &mut [u8], v: View, byte: u8, count: u8) -> View
     requires { ⌜ AllOnScreen (spaces count v .edits) × (byte ≡ storedByte (modeOf v) 0x20) × (length (now screen) ≡ 1920) ⌝ }
@@ -48,12 +68,7 @@ fn print_spaces(screen: &mut [u8], v: View, byte: u8, count: u8) -> View
     let mut at = v;
     let mut left = count;
     while 0 < left {
-        let printed = print_byte(at, byte);
-        let first = printed.first;
-        let second = printed.second;
-        draw_change(screen, first);
-        draw_change(screen, second);
-        at = printed.view;
+        at = print_byte(screen, at, byte);
         left -= 1;
     }
     at
@@ -84,14 +99,29 @@ fn bell_count(bell: bool) -> usize
     if bell { 1 } else { 0 }
 }
 
+// A printing code.
+fn carry_code(screen: &mut [u8], table: &[u8; 768], p: Port, code: u8) -> Progress
+    requires { ⌜ Valid p × Agrees (now table) × (length (now screen) ≡ 1920) × (p .waiting ≡ 0) × (32 ≤ code) ⌝ }
+    ensures { λ r. ⌜ Carried (step p code) (r .port) (r .bells) (now (screen .entry)) (now (screen .exit)) ⌝ }
+{
+    let view = p.view;
+    let byte = stored_byte(table, mode_of(view), code);
+    let printed = print_byte(screen, view, byte);
+    Progress {
+        port: with_view(p, printed),
+        bells: 0,
+    }
+}
+
 // One byte.
 fn carry_byte(screen: &mut [u8], table: &[u8; 768], p: Port, b: u8) -> Progress
     requires { ⌜ Valid p × Agrees (now table) × (length (now screen) ≡ 1920) ⌝ }
     ensures { λ r. ⌜ Carried (step p b) (r .port) (r .bells) (now (screen .entry)) (now (screen .exit)) ⌝ }
 {
-    let cell = stored_byte(table, mode_of(p.view), b);
-    let plan = plan_byte(p, b, cell);
-    carry_out(screen, table, plan)
+    if (p.waiting == 0) & (32 <= b) {
+        return carry_code(screen, table, p, b);
+    }
+    carry_out(screen, table, plan_byte(p, b))
 }
 
 // Each byte of the stream in its order. The table is made once, and lent to each byte.

@@ -4,15 +4,14 @@ use mathlib.Core.Path.{_≡_, refl, ap, _∙_}
 use mathlib.Core.Bool.{Bool, true, false, cond, _&&_}
 use native.Mathlib.Omega.{arith}
 use mathlib.Core.List.{[], _++_, append-nil}
-use lib.Dec.{T, leb, ltb, eqb, ltb→lt}
+use lib.Dec.{leb}
 use borrow.Author.Tests.{leb-true, leb-false, lt-ltb, le-ltb, ne-eqb}
 use Rattle.screen.proofs.Tests.{and-left, and-right}
-use Rattle.charset.specs.Stored.{storedByte}
 use Rattle.port.specs.declared.View.{View}
 use Rattle.port.specs.declared.Port.{Port}
 use Rattle.port.specs.Valid.{parameters}
 use Rattle.port.specs.Effect.{Effect, becomes}
-use Rattle.port.specs.Codes.{modeOf, printByte, print, spaces, dleSpaceExpansion}
+use Rattle.port.specs.Codes.{spaces, dleSpaceExpansion}
 use Rattle.port.specs.Step.{withView, becomesPort, onView, ringBell, gatherOne, obey, perform, parameter, step}
 use Rattle.view.specs.declared.Moved.{Moved}
 use Rattle.view.specs.declared.ViewPlan.{ViewPlan}
@@ -81,51 +80,13 @@ abbrev pub NoneBelow : ℕ → ℕ → Type 0
 NoneBelow zero code = Unit {0}
 NoneBelow (suc n) code = NoneBelow n code × (code ≡ n → ⊥)
 
-pub none-below : (n code : ℕ) → NoneBelow n code → n ≤ code
+none-below : (n code : ℕ) → NoneBelow n code → n ≤ code
 none-below zero code none = omega arith
 none-below (suc n) code none = let h : n ≤ code = none-below n code (none .0) in let k = none .1 in omega arith
 
--- $20 to $FF are printed
-pub printing : (r : Plan) (p : Port) (code : ℕ) → 32 ≤ code → carriedOut r ≡ onView p (print (p .view) code) → carriedOut r ≡ obey p code
-unfolding obey
-printing r p code big h =
-    simp (
-      other 0x00 tt,
-      other 0x01 tt,
-      other 0x02 tt,
-      other 0x03 tt,
-      other 0x04 tt,
-      other 0x05 tt,
-      other 0x06 tt,
-      other 0x07 tt,
-      other 0x08 tt,
-      other 0x09 tt,
-      other 0x0a tt,
-      other 0x0b tt,
-      other 0x0c tt,
-      other 0x0d tt,
-      other 0x0e tt,
-      other 0x0f tt,
-      other 0x10 tt,
-      other 0x11 tt,
-      other 0x12 tt,
-      other 0x13 tt,
-      other 0x14 tt,
-      other 0x15 tt,
-      other 0x16 tt,
-      other 0x17 tt,
-      other 0x18 tt,
-      other 0x19 tt,
-      other 0x1a tt,
-      other 0x1b tt,
-      other 0x1c tt,
-      other 0x1d tt,
-      other 0x1e tt,
-      other 0x1f tt,
-    ) h
-  where
-    other : (k : ℕ) → T (ltb k 32) → eqb code k ≡ false
-    other k small = ne-eqb code k (λ e. let below : k < 32 = ltb→lt k 32 small in omega arith)
+-- the last of the control codes
+pub last-code : (code : ℕ) → NoneBelow 31 code → code < 32 → code ≡ 31
+last-code code none small = let h = none-below 31 code none in omega arith
 
 -- a command by its number
 pub at-command : (r : Plan) (p : Port) (code k b : ℕ) → code ≡ k → carriedOut r ≡ perform p k b → carriedOut r ≡ perform p code b
@@ -157,11 +118,6 @@ module _ (r : Plan) (p : Port) (b n : ℕ) (counted : n ≡ parameters (p .waiti
   pub is-code : n ≤ 0 → carriedOut r ≡ obey p b → carriedOut r ≡ step p b
   unfolding step
   is-code h e = simp (le-ltb 0 (parameters (p .waiting)) (omega arith)) e
-
--- a code that is printed, with its stored byte
-pub prints : (m : ViewPlan) (v : View) (code cell : ℕ) → cell ≡ storedByte (modeOf v) code → planEffect m ≡ printByte v cell → planEffect m ≡ print v code
-unfolding print
-prints m v code cell e h = h ∙ ap (printByte v) e
 
 -- what the arms of a `match` on a code come to
 pub ruleset arms = (at-code, carried-port, carried-bell, carried-view, carried-moved, plans)

@@ -24,10 +24,9 @@ use view::with_modes;
 use wait::gather_one;
 use wait::wait_for;
 ghost use mathlib.Core.Path.{_≡_};
-ghost use Prim.Native.Nat.{_<_};
+ghost use Prim.Native.Nat.{_≤_, _<_};
 ghost use Rattle.screen.specs.Cells.{OnScreen};
-ghost use Rattle.charset.specs.Stored.{storedByte};
-ghost use Rattle.port.specs.Codes.{modeOf};
+ghost use Rattle.port.specs.Valid.{parameters};
 ghost use Rattle.port.specs.Step as rules;
 ghost use Rattle.planner.specs.Plan.{carriedOut, portPlan, movedPlan, viewPlan, spaceCount};
 
@@ -84,9 +83,9 @@ fn planned(port: Port, to: ViewPlan) -> Plan
     }
 }
 
-// A byte that is a code: each control code by its own arm, and the rest are printed. cell is the byte that the code is stored as.
-fn obey(p: Port, code: u8, cell: u8) -> Plan
-    requires { ⌜ cell ≡ storedByte (modeOf (p .view)) code ⌝ }
+// A control code: each by its own arm, and the last is $1F.
+fn obey(p: Port, code: u8) -> Plan
+    requires { ⌜ code < 32 ⌝ }
     ensures { λ r. ⌜ carriedOut r ≡ rules.obey p code ⌝ }
 {
     let v = p.view;
@@ -122,8 +121,7 @@ fn obey(p: Port, code: u8, cell: u8) -> Plan
         0x1C => moved(p, cursor::move_cursor_right(v)),
         0x1D => moved(p, erase::clear_to_line_end(v)),
         0x1E => only(wait_for(p, 0x1E), 0, false),
-        0x1F => moved(p, cursor::move_cursor_up(v)),
-        _ => planned(p, cursor::print_byte(v, cell)),
+        _ => moved(p, cursor::move_cursor_up(v)),
     }
 }
 
@@ -172,13 +170,13 @@ fn parameter(p: Port, b: u8) -> Plan
     perform(p, b)
 }
 
-// One byte; cell is the byte that it is stored as where it is printed.
-pub fn plan_byte(p: Port, b: u8, cell: u8) -> Plan
-    requires { ⌜ OnScreen (p .view .viewport) × (p .count < 4) × (cell ≡ storedByte (modeOf (p .view)) b) ⌝ }
+// One byte that is a parameter or a control code. Printing is `executor`'s work.
+pub fn plan_byte(p: Port, b: u8) -> Plan
+    requires { ⌜ OnScreen (p .view .viewport) × (p .count < 4) × (parameters (p .waiting) ≤ 0 → b < 32) ⌝ }
     ensures { λ r. ⌜ carriedOut r ≡ rules.step p b ⌝ }
 {
     if 0 < parameters(p.waiting) {
         return parameter(p, b);
     }
-    obey(p, b, cell)
+    obey(p, b)
 }

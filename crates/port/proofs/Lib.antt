@@ -1,6 +1,7 @@
--- The laws of paper 01's definitions. `Validity`: the tests decide the propositions. `Views`, `Steps`: a code, a byte keep validity and home, and edit inside the viewport. `Streams`: a stream may be cut. `Bells`: what rings.
+-- The laws of paper 01's definitions. `Validity`: the tests decide the propositions. `Views`, `Steps`: a code, a byte keep validity and home, and edit inside the viewport. `Streams`: a stream may be cut. `Bells`: what rings. `Prints`: which codes are printed.
 pub mod Validity
 pub mod Views
 pub mod Steps
 pub mod Streams
 pub mod Bells
+pub mod Prints

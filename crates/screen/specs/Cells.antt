@@ -11,6 +11,10 @@ columnOf i = i % 80
 abbrev pub lineOf : ℕ → ℕ
 lineOf i = i / 80
 
+-- the rectangle of one cell
+abbrev pub cellAt : ℕ → ℕ → Rect
+cellAt column line = record { left = column; top = line; right = column; bottom = line }
+
 -- a rectangle of at least one cell that lies on the screen
 pub record OnScreen (r : Rect) : Type 0 where
   pub across : r .left ≤ r .right

@@ -3,7 +3,7 @@
 ghost use mathlib.Core.Path.{_≡_};
 ghost use Prim.Native.Nat.{_+_, _-_, _*_, _≤_, _<_, min};
 ghost use lib.ListN.{length, getD};
-ghost use Rattle.screen.specs.Cells.{OnScreen};
+ghost use Rattle.screen.specs.Cells.{OnScreen, cellAt};
 ghost use Rattle.screen.specs.Rewrite.{Rewritten};
 ghost use Rattle.screen.specs.Edit.{edited};
 
@@ -54,6 +54,15 @@ fn width(rect: Rect) -> usize
     ensures { λ r. ⌜ r ≡ rect .right + 1 - rect .left ⌝ }
 {
     (rect.right - rect.left) as usize + 1
+}
+
+// One cell becomes byte.
+pub fn store_cell(screen: &mut [u8], column: u8, line: u8, byte: u8)
+    requires { ⌜ (column ≤ 79) × (line ≤ 23) × (length (now screen) ≡ 1920) ⌝ }
+    ensures { λ _. ⌜ now (screen .exit) ≡ edited (cellAt column line) Motion.Clear byte (now (screen .entry)) ⌝ }
+{
+    let index = cell_index(column as usize, line as usize);
+    screen[index] = byte;
 }
 
 // Each cell from start up to end becomes byte.

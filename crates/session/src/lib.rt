@@ -1,4 +1,6 @@
 // A plain console kept for a session: its port, and the bells so far. A stream may come in pieces of any size.
+use console::Answer;
+use console::put_byte_by_value;
 use console::write;
 use port::Port;
 ghost use Prim.Native.Nat.{_<_, min};
@@ -10,14 +12,18 @@ pub struct Session {
     pub bells: u64,
 }
 
-// One write.
-pub fn hand_over(screen: &mut [u8], at: Session, bytes: &[u8]) -> Session {
-    let answer = write(at.port, screen, bytes);
+// The session after a call.
+fn after(at: Session, answer: Answer) -> Session {
     let port = answer.port;
     Session {
         port,
         bells: std::num::wrapping_add_u64(at.bells, answer.count as u64),
     }
+}
+
+// One write.
+pub fn hand_over(screen: &mut [u8], at: Session, bytes: &[u8]) -> Session {
+    after(at, write(at.port, screen, bytes))
 }
 
 fn least(a: usize, b: usize) -> usize
@@ -36,6 +42,15 @@ pub fn hand_over_all(screen: &mut [u8], at: Session, bytes: &[u8], size: usize) 
         let end = start + least(size, bytes.len() - start);
         now = hand_over(screen, now, &bytes[start..end]);
         start = end;
+    }
+    now
+}
+
+// The bytes one after another by the one-byte call, which changes a port where it lies.
+pub fn hand_over_bytes(screen: &mut [u8], at: Session, bytes: &[u8]) -> Session {
+    let mut now = at;
+    for i in 0..bytes.len() {
+        now = after(now, put_byte_by_value(now.port, screen, bytes[i]));
     }
     now
 }

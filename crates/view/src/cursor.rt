@@ -1,18 +1,14 @@
-// Codes that move the cursor by one, and printing.
-use super::Change;
+// Codes that move the cursor by one, and how printing moves it.
 use super::Moved;
-use super::ViewPlan;
 use super::cursor_at;
 use super::move_cells;
 use super::once;
 use super::still;
 use port::View;
-use screen::Edit;
 use screen::Motion;
-use screen::Rect;
 ghost use mathlib.Core.Path.{_≡_};
-ghost use Rattle.port.specs.Codes.{moveCursorRight, backspace, lineFeed, moveCursorUp, carriageReturn, advanced, printByte};
-ghost use Rattle.view.specs.Plan.{effectOf, planEffect};
+ghost use Rattle.port.specs.Codes.{moveCursorRight, backspace, lineFeed, moveCursorUp, carriageReturn, advanced};
+ghost use Rattle.view.specs.Plan.{effectOf};
 
 // $1C.
 pub fn move_cursor_right(v: View) -> Moved
@@ -96,8 +92,8 @@ pub fn carriage_return(v: View) -> Moved
     still(start)
 }
 
-// What $1C does, if advance.
-fn advance(v: View) -> Moved
+// What $1C does, if advance: what printing does after it stored a byte.
+pub fn advance(v: View) -> Moved
     ensures { λ r. ⌜ effectOf r ≡ advanced v ⌝ }
 {
     let flags = v.flags;
@@ -105,28 +101,4 @@ fn advance(v: View) -> Moved
         return move_cursor_right(v);
     }
     still(v)
-}
-
-// A byte is stored at the cursor; then the cursor advances.
-pub fn print_byte(v: View, byte: u8) -> ViewPlan
-    ensures { λ r. ⌜ planEffect r ≡ printByte v byte ⌝ }
-{
-    let cell = Edit {
-        rect: Rect {
-            left: v.column,
-            top: v.line,
-            right: v.column,
-            bottom: v.line,
-        },
-        motion: Motion::Clear,
-        fill: byte,
-    };
-    let moved = advance(v);
-    let view = moved.view;
-    let second = moved.change;
-    ViewPlan {
-        view,
-        first: Change::Draw(cell),
-        second,
-    }
 }

@@ -1,4 +1,4 @@
-// What printing and each code of paper 01 do to a view, as a plan: the next view and the edits of the screen, at most two.
+// What each code of paper 01 does to a view, as a plan: the next view and the edits of the screen, at most two. Printing moves the cursor as a code does.
 // No function here sees a screen: what a port does next never depends on a cell.
 pub mod cursor;
 pub mod erase;

@@ -20,25 +20,46 @@ enum-known-located-2 : tie.Need-enum-known-located-2
 enum-known-located-2 c = search needs
 
 mul-slot : tie.Need-mul-slot
-mul-slot c = let below = found-on (c .before .before .before .before .before .before .args .t1) (length (c .before .before .before .before .before .before .args .screen .now)) (c .before .before .before .before .before .before .args .client) (c .before .located2 .given .0 .0) (c .before .before .before .locate-on .result) (c .before .before .before .locate-on .ensures) (c .before .located2 .given .1) .1 .below in omega arith
+mul-slot c =
+    let args = c .before .before .before .before .before .before .args in
+    let located = c .before .before .before .locate-on in
+    let way = c .before .located2 .given in
+    let below = found-on (args .t1) (length (args .screen .now)) (args .client) (way .0 .0) (located .result) (located .ensures) (way .1) .1 .below in
+    omega arith
 
 element-copy-out-slot : tie.Need-element-copy-out-slot
-element-copy-out-slot c = found-on (c .before .before .before .before .before .before .args .t1) (length (c .before .before .before .before .before .before .args .screen .now)) (c .before .before .before .before .before .before .args .client) (c .before .located2 .given .0 .0) (c .before .before .before .locate-on .result) (c .before .before .before .locate-on .ensures) (c .before .located2 .given .1) .1 .below
+element-copy-out-slot c =
+    let args = c .before .before .before .before .before .before .args in
+    let located = c .before .before .before .locate-on in
+    let way = c .before .located2 .given in
+    found-on (args .t1) (length (args .screen .now)) (args .client) (way .0 .0) (located .result) (located .ensures) (way .1) .1 .below
 
 return-block-requires : tie.Need-return-block-requires
 return-block-requires c κs = search needs
 
 relay-requires : tie.Need-relay-requires
-relay-requires c κs = found-on (c .before .before .before .before .before .before .before .before .before .before .before .before .args .t1) (length (c .before .before .before .before .before .before .before .before .before .before .before .before .args .screen .now)) (c .before .before .before .before .before .before .before .before .before .before .before .before .args .client) (c .before .before .before .before .before .before .before .located2 .given .0 .0) (c .before .before .before .before .before .before .before .before .before .locate-on .result) (c .before .before .before .before .before .before .before .before .before .locate-on .ensures) (c .before .before .before .before .before .before .before .located2 .given .1) .1 .below
+relay-requires c κs =
+    let args = c .before .before .before .before .before .before .before .before .before .before .before .before .args in
+    let located = c .before .before .before .before .before .before .before .before .before .locate-on in
+    let way = c .before .before .before .before .before .before .before .located2 .given in
+    found-on (args .t1) (length (args .screen .now)) (args .client) (way .0 .0) (located .result) (located .ensures) (way .1) .1 .below
 
 returns : tie.Need-returns
-returns c = client-refused console.blockReturned (c .before .before .before .before .before .before .before .args .t1) (c .before .before .before .before .before .before .before .args .screen .now) (c .before .before .before .before .before .before .before .args .client) _ (c .before .before .before .before .locate-on .result) (c .before .before .before .before .locate-on .ensures) (c .before .before .located .given .0 .0) _ (c .before .before .located .given .1) (c .answer-with .ensures)
+returns c =
+    let args = c .before .before .before .before .before .before .before .args in
+    let located = c .before .before .before .before .locate-on in
+    let way = c .before .before .located .given in
+    client-refused console.blockReturned (args .t1) (args .screen .now) (args .client) _ (located .result) (located .ensures) (way .0 .0) _ (way .1) (c .answer-with .ensures)
 
 same-length : tie.Need-same-length
 same-length c = search needs
 
 returns-2 : tie.Need-returns-2
-returns-2 c = client-served console.blockReturned (c .before .before .before .before .before .before .before .before .before .before .before .before .before .args .t1) (c .before .before .before .before .before .before .before .before .before .before .before .before .before .args .screen .now) (c .before .before .before .before .before .before .before .before .before .before .before .before .before .args .client) _ (c .before .before .before .before .before .before .before .before .before .before .locate-on .result) (c .before .before .before .before .before .before .before .before .before .before .locate-on .ensures) (c .before .before .before .before .before .before .before .before .located2 .given .0 .0) _ _ _ _ (c .before .before .before .before .before .before .before .before .located2 .given .1) (c .before .before .before .return-block .ensures) (c .relay .ensures)
+returns-2 c =
+    let args = c .before .before .before .before .before .before .before .before .before .before .before .before .before .args in
+    let located = c .before .before .before .before .before .before .before .before .before .before .locate-on in
+    let way = c .before .before .before .before .before .before .before .before .located2 .given in
+    client-served console.blockReturned (args .t1) (args .screen .now) (args .client) _ (located .result) (located .ensures) (way .0 .0) _ _ _ _ (way .1) (c .before .before .before .return-block .ensures) (c .relay .ensures)
 
 pub return-block-spec : {M : Type 1} → statement M
 return-block-spec =

@@ -1,7 +1,7 @@
--- `planner::obey` meets its contract: an arm for each code, where the definition computes; in the last one the code is at least 32, since it is none of those below. Assumes nothing.
+-- `planner::obey` meets its contract: an arm for each code, where the definition computes; in the last one the code is $1F, since it is none of those below. Assumes nothing.
 use borrow.Author.Needs.{needs}
 use Rattle.port.specs.Step.{obey}
-use Rattle.planner.proofs.Carried.{arms, none-below, printing, carried-view, prints}
+use Rattle.planner.proofs.Carried.{arms, at-code, last-code}
 use Rattle.planner.proofs.obey.Statement.{statement}
 use Rattle.planner.proofs.obey.Tie as tie
 
@@ -203,12 +203,6 @@ move-cursor-up-requires c κs = search needs
 moved-requires-16 : tie.Need-moved-requires-16
 moved-requires-16 c κs = search needs
 
-print-byte-requires : tie.Need-print-byte-requires
-print-byte-requires c κs = search needs
-
-planned-requires-3 : tie.Need-planned-requires-3
-planned-requires-3 c κs = search needs
-
 returns : tie.Need-returns
 unfolding obey
 returns c = search arms
@@ -335,12 +329,9 @@ returns-31 c = search arms
 
 returns-32 : tie.Need-returns-32
 unfolding obey
-returns-32 c = search arms
-
-returns-33 : tie.Need-returns-33
-returns-33 c =
+returns-32 c =
     let start = c .before .before .before .before in
-    printing _ (start .args .p) (start .args .code) (none-below 32 (start .args .code) (c .before .before .match .rest)) (search (carried-view, prints))
+    at-code _ (start .args .p) (start .args .code) 31 (last-code (start .args .code) (c .before .before .match .rest) (start .pre)) (search arms)
 
 pub obey-spec : {M : Type 1} → statement M
 obey-spec =
@@ -412,8 +403,6 @@ obey-spec =
     only-requires-14
     move-cursor-up-requires
     moved-requires-16
-    print-byte-requires
-    planned-requires-3
     returns
     returns-2
     returns-3
@@ -445,5 +434,4 @@ obey-spec =
     returns-29
     returns-30
     returns-31
-    returns-32
-    returns-33)
+    returns-32)

@@ -1,4 +1,5 @@
 -- `planner::plan_byte` meets its contract: the test is the definition's, by what `parameters` returns. Assumes nothing.
+use native.Mathlib.Omega.{arith}
 use borrow.Author.Needs.{needs}
 use Rattle.planner.proofs.Carried.{is-parameter, is-code}
 use Rattle.planner.proofs.plan_byte.Statement.{statement}
@@ -14,7 +15,7 @@ returns : tie.Need-returns
 returns c = search is-parameter
 
 obey-requires : tie.Need-obey-requires
-obey-requires c κs = search needs
+obey-requires c κs = let counted = c .before .parameters .ensures in let none = c .if1 .left in c .before .before .pre .2 (omega arith)
 
 returns-2 : tie.Need-returns-2
 returns-2 c = search is-code

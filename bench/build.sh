@@ -1,0 +1,33 @@
+# Shared by the scripts beside it, which run it from the top of the repository. It builds the benchmark for release, linked with the library.
+library=target/staticlib/libboundary.a
+out=target/bench
+
+fail() {
+    printf 'bench: %s\n' "$*" >&2
+    exit 1
+}
+
+need() { # TOOL
+    command -v "$1" >/dev/null 2>&1 || fail "the command '$1' is missing"
+}
+
+compile() { # PROGRAM SOURCE
+    rustc --edition 2021 -D warnings -C opt-level=3 -L "native=${library%/*}" -l static=boundary \
+        -o "$out/$1" "bench/src/$2" || fail "$2 does not compile"
+}
+
+# Always anew, as the library may have changed: it takes some seconds.
+build() {
+    [ -f "$library" ] || fail "$library is missing; 'rt staticlib boundary' builds it"
+    need rustc
+    mkdir -p "$out"
+    compile bench main.rs
+    compile driver driver.rs
+}
+
+# What was measured, on what.
+say_machine() {
+    printf 'Date %s; %s, %s processors; %s; library %s bytes, checksum %s.\n' "$(date +%Y-%m-%d)" \
+        "$(sed -n 's/^model name[^:]*: //p' /proc/cpuinfo | head -n 1)" "$(grep -c '^processor' /proc/cpuinfo)" \
+        "$(rustc --version)" "$(wc -c <"$library")" "$(cksum <"$library" | cut -d ' ' -f 1)"
+}

@@ -1,0 +1,58 @@
+//! Whether all consoles end a stream alike, before they are timed.
+
+use crate::drivers::{printed, Peer, Task};
+use crate::expected;
+use crate::harness::{Harness, Length};
+use std::fs::{read, File};
+use std::process::Command;
+
+const PAGE: usize = 65536;
+const PIECE: usize = 7;
+
+/// Each workload and console that differ. The plain C console sets what
+/// the others must show; it is itself compared with the reference.
+pub fn differences(harness: &Harness, peers: &[Peer]) -> Result<Vec<String>, String> {
+    let mut found = Vec::new();
+    for units in harness.units(Length::Long)? {
+        if !plain_c_is_right(harness, &units.name)? {
+            found.push(format!("{}: plain C console and reference program", units.name));
+        }
+        for peer in peers {
+            if !shows_the_same(harness, &peers[0], peer, &units.name)? {
+                found.push(format!("{}: plain C console and {}", units.name, peer.title));
+            }
+        }
+    }
+    Ok(found)
+}
+
+/// Its cells, cursor and bells by the program that the harness builds of
+/// it, which prints what a console program is to print.
+fn plain_c_is_right(harness: &Harness, name: &str) -> Result<bool, String> {
+    let path = harness.stream(Length::Short, name, "apple");
+    let failed = |error| format!("{}: {}", path.display(), error);
+    let stream = read(&path).map_err(failed)?;
+    let input = File::open(&path).map_err(failed)?;
+    let output = Command::new(harness.program("ref")).stdin(input).output();
+    Ok(printed("plain C console", output)? == expected::whole(&stream))
+}
+
+/// As it is timed, and cut into pieces.
+fn shows_the_same(
+    harness: &Harness,
+    plain_c: &Peer,
+    peer: &Peer,
+    name: &str,
+) -> Result<bool, String> {
+    let whole = |length| Task { length, name, chunk: PAGE };
+    let cut =
+        Task { length: Length::Short, name, chunk: if peer.one_byte_call { 0 } else { PIECE } };
+    if peer.dump(harness, cut)? != plain_c.dump(harness, whole(Length::Short))? {
+        return Ok(false);
+    }
+    if peer.one_byte_call {
+        return Ok(true);
+    }
+    let whole = whole(peer.length());
+    Ok(peer.dump(harness, whole)? == plain_c.dump(harness, whole)?)
+}

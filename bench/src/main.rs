@@ -1,0 +1,78 @@
+//! The benchmark. It is built and started by the scripts beside it.
+//!
+//! Usage: bench own ROUNDS
+//!        bench peers FOLDER ROUNDS
+//!        bench instructions FOLDER DRIVER [C_DRIVER]
+//!
+//! The exit status is 0 if the tables were printed, 1 if something
+//! failed or results differ, 2 if the arguments are wrong.
+
+#[path = "../../reference/src/cells.rs"]
+mod cells;
+#[path = "../../reference/src/console.rs"]
+mod console;
+#[path = "../../reference/src/cursor.rs"]
+mod cursor;
+#[allow(dead_code)]
+#[path = "../../tests/compare/expected.rs"]
+mod expected;
+#[allow(dead_code)]
+#[path = "../../tests/compare/numbers.rs"]
+mod numbers;
+#[path = "../../reference/src/port.rs"]
+mod port;
+#[path = "../../reference/src/stored.rs"]
+mod stored;
+
+mod agreement;
+mod check;
+mod clock;
+mod drivers;
+mod end;
+mod feed;
+mod harness;
+mod instructions;
+mod library;
+mod machine;
+mod measure;
+mod own;
+mod peers;
+mod reference;
+mod table;
+
+mod workloads;
+
+use std::process::exit;
+
+const USAGE: &str = "usage: bench own ROUNDS
+       bench peers FOLDER ROUNDS
+       bench instructions FOLDER DRIVER [C_DRIVER]";
+
+fn main() {
+    let arguments: Vec<String> = std::env::args().skip(1).collect();
+    match asked(&arguments) {
+        Some(Ok(())) => {}
+        Some(Err(message)) => {
+            eprintln!("bench: {}", message);
+            exit(1);
+        }
+        None => {
+            eprintln!("{}", USAGE);
+            exit(2);
+        }
+    }
+}
+
+/// Does what is asked for; none if the arguments are not understood.
+fn asked(arguments: &[String]) -> Option<Result<(), String>> {
+    let (part, arguments) = arguments.split_first()?;
+    match (part.as_str(), arguments) {
+        ("own", [rounds]) => Some(own::run(rounds.parse().ok()?)),
+        ("peers", [folder, rounds]) => Some(peers::run(folder, rounds.parse().ok()?)),
+        ("instructions", [folder, ours]) => Some(instructions::run(folder, ours, None)),
+        ("instructions", [folder, ours, plain_c]) => {
+            Some(instructions::run(folder, ours, Some(plain_c)))
+        }
+        _ => None,
+    }
+}

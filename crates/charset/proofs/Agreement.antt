@@ -61,6 +61,10 @@ agrees table len test = record { entry = at-entry }
 pub looked-up : (table : List ℕ) (mode : Mode) (start code : ℕ) → Agrees table → start ≡ 256 * rowOf mode → code < 256 → getD table (start + code) 0 ≡ storedByte mode code
 looked-up table mode start code a e small = rw e (a .entry mode code small)
 
+-- the same in an arm for one mode
+pub looked-up-in : (table : List ℕ) (mode m : Mode) (entry code : ℕ) → mode ≡ m → entry ≡ 256 * rowOf m + code → code < 256 → Agrees table → getD table entry 0 ≡ storedByte mode code
+looked-up-in table mode m entry code e at small a = ap (λ (k : ℕ). getD table k 0) at ∙ a .entry m code small ∙ ap (λ (x : Mode). storedByte x code) (sym e)
+
 -- a mode has one of the three rows
 pub row-below : (mode : Mode) → rowOf mode < 3
 row-below mode = row-mode mode .1

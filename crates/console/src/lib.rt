@@ -7,6 +7,7 @@ use block::copy_out;
 use block::height;
 use block::row_start;
 use block::width;
+use executor::carry_single;
 use executor::carry_stream;
 use port::Port;
 use port::state::fresh_port;
@@ -115,8 +116,14 @@ pub fn write(p: Port, screen: &mut [u8], bytes: &[u8]) -> Answer
 pub fn write_byte(p: Port, screen: &mut [u8], byte: u8) -> Answer
     ensures { λ r. ⌜ Replies (writeCall p (now (screen .entry)) (byte ∷ [])) r (now (screen .exit)) (byte ∷ []) ⌝ }
 {
-    let bytes = [byte; 1];
-    write(p, screen, &bytes)
+    let judged = judge(p, screen.len());
+    match judged {
+        Judged::Refused(status) => refused(status, p),
+        Judged::Accepted => {
+            let written = carry_single(screen, p, byte);
+            done(written.port, written.bells)
+        }
+    }
 }
 
 // What the one-byte call hands back besides the port.

@@ -154,6 +154,10 @@ nothing-left : (p : Port) (s : List ℕ) → Carried (stream p []) p 0 s s
 unfolding stream draw
 nothing-left p s = record { port-is = refl; bells-are = refl; cells = refl }
 
+-- a stream of one byte
+pub single-carried : (p q : Port) (b n : ℕ) (s t : List ℕ) → Carried (step p b) q n s t → Carried (stream p (b ∷ [])) q n s t
+single-carried p q b n s t d = subst (λ (x : ℕ). Carried (stream p (b ∷ [])) q x s t) (add-zero n) (first-then p q q b n 0 [] s t t d (nothing-left q t))
+
 module _ {p₀ : Port} {bs s₀ : List ℕ} {i : ℕ} {p : Port} {rung : ℕ} {s : List ℕ} (r : Streaming p₀ bs s₀ i p rung s) where
   pub streaming-again : (q : Port) (k : ℕ) (t : List ℕ) → i < length bs → Carried (step p (getD bs i 0)) q k s t → Streaming p₀ bs s₀ (i + 1) q (rung + k) t
   streaming-again q k t more d = record {

@@ -1,4 +1,5 @@
 // The executor: prints, and carries plans out on the screen, one byte after another.
+use charset::stored_alone;
 use charset::stored_byte;
 use charset::table_copy;
 use planner::Plan;
@@ -12,8 +13,9 @@ use view::Change;
 use view::cursor::advance;
 use view::mode_of;
 ghost use mathlib.Core.Path.{_≡_};
-ghost use mathlib.Core.Bool.{cond};
-ghost use Prim.Native.Nat.{_≤_};
+ghost use mathlib.Core.Bool.{true, cond, _&&_};
+ghost use mathlib.Core.List.{[], _∷_};
+ghost use lib.Dec.{leb, eqb};
 ghost use lib.ListN.{length};
 ghost use Rattle.screen.specs.Edit.{draw};
 ghost use Rattle.charset.specs.Stored.{Agrees, storedByte};
@@ -99,27 +101,33 @@ fn bell_count(bell: bool) -> usize
     if bell { 1 } else { 0 }
 }
 
-// A printing code.
-fn carry_code(screen: &mut [u8], table: &[u8; 768], p: Port, code: u8) -> Progress
-    requires { ⌜ Valid p × Agrees (now table) × (length (now screen) ≡ 1920) × (p .waiting ≡ 0) × (32 ≤ code) ⌝ }
+// Whether a byte is a printing code: nothing waits, and it is no control code.
+fn is_printed(p: Port, b: u8) -> bool
+    ensures { λ r. ⌜ r ≡ (eqb (p .waiting) 0 && leb 32 b) ⌝ }
+{
+    (p.waiting == 0) & (32 <= b)
+}
+
+// A printing code, which is stored as byte.
+fn carry_code(screen: &mut [u8], p: Port, code: u8, byte: u8) -> Progress
+    requires { ⌜ Valid p × (length (now screen) ≡ 1920) × ((eqb (p .waiting) 0 && leb 32 code) ≡ true) × (byte ≡ storedByte (modeOf (p .view)) code) ⌝ }
     ensures { λ r. ⌜ Carried (step p code) (r .port) (r .bells) (now (screen .entry)) (now (screen .exit)) ⌝ }
 {
-    let view = p.view;
-    let byte = stored_byte(table, mode_of(view), code);
-    let printed = print_byte(screen, view, byte);
+    let printed = print_byte(screen, p.view, byte);
     Progress {
         port: with_view(p, printed),
         bells: 0,
     }
 }
 
-// One byte.
+// One byte of a stream.
 fn carry_byte(screen: &mut [u8], table: &[u8; 768], p: Port, b: u8) -> Progress
     requires { ⌜ Valid p × Agrees (now table) × (length (now screen) ≡ 1920) ⌝ }
     ensures { λ r. ⌜ Carried (step p b) (r .port) (r .bells) (now (screen .entry)) (now (screen .exit)) ⌝ }
 {
-    if (p.waiting == 0) & (32 <= b) {
-        return carry_code(screen, table, p, b);
+    if is_printed(p, b) {
+        let byte = stored_byte(table, mode_of(p.view), b);
+        return carry_code(screen, p, b, byte);
     }
     carry_out(screen, table, plan_byte(p, b))
 }
@@ -138,4 +146,17 @@ pub fn carry_stream(screen: &mut [u8], p: Port, bytes: &[u8]) -> Progress
         bells += done.bells;
     }
     Progress { port, bells }
+}
+
+// A stream of one byte. A printing code needs no table made for it.
+pub fn carry_single(screen: &mut [u8], p: Port, b: u8) -> Progress
+    requires { ⌜ Valid p × (length (now screen) ≡ 1920) ⌝ }
+    ensures { λ r. ⌜ Carried (stream p (b ∷ [])) (r .port) (r .bells) (now (screen .entry)) (now (screen .exit)) ⌝ }
+{
+    if is_printed(p, b) {
+        let byte = stored_alone(mode_of(p.view), b);
+        return carry_code(screen, p, b, byte);
+    }
+    let bytes = [b; 1];
+    carry_stream(screen, p, &bytes)
 }

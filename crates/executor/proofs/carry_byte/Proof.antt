@@ -1,16 +1,27 @@
 -- `executor::carry_byte` meets its contract: a printing code, or a plan that is the definition's step, whose edits lie inside the viewport. Assumes nothing.
-use Rattle.executor.proofs.Carrying.{viewport-on-screen, few-gathered, is-printed, not-printed, plan-on-screen, byte-carried, same-size}
+use mathlib.Core.Path.{sym, _∙_}
+use Rattle.executor.proofs.Carrying.{viewport-on-screen, few-gathered, not-printed, stored-as, plan-on-screen, byte-carried, same-size}
+use borrow.Author.Needs.{needs}
 use Rattle.executor.proofs.carry_byte.Statement.{statement}
 use Rattle.executor.proofs.carry_byte.Tie as tie
 
+is-printed-requires : tie.Need-is-printed-requires
+is-printed-requires c κs = search needs
+
+mode-of-requires : tie.Need-mode-of-requires
+mode-of-requires c κs = search needs
+
+stored-byte-requires : tie.Need-stored-byte-requires
+stored-byte-requires c κs = search needs
+
 carry-code-requires : tie.Need-carry-code-requires
 carry-code-requires c κs =
-    let start = c .before .before .before .before in
-    let code = is-printed (start .args .p) (start .args .b) (c .before .if1 .taken) in
-    (start .pre .0, start .pre .1, start .pre .2, code .0, code .1)
+    let start = c .before .before .before .before .before .before in
+    let byte = stored-as (start .args .p .view) _ (start .args .b) (c .before .stored-byte .ensures) (c .before .before .mode-of .ensures) in
+    (start .pre .0, start .pre .2, sym (c .before .before .before .before .is-printed .ensures) ∙ c .before .before .before .if1 .taken, byte)
 
 same-length : tie.Need-same-length
-same-length c = same-size (c .before .before .carry-code .ensures) (c .before .before .before .before .before .before .before .pre .2)
+same-length c = same-size (c .before .before .carry-code .ensures) (c .before .before .before .before .before .before .before .before .before .pre .2)
 
 returns : tie.Need-returns
 returns c = c .before .before .carry-code .ensures
@@ -19,7 +30,7 @@ plan-byte-requires : tie.Need-plan-byte-requires
 plan-byte-requires c κs =
     let start = c .before .before .before .before in
     let p = start .args .p in
-    (viewport-on-screen p (start .pre .0), few-gathered p (start .pre .0), not-printed p (start .args .b) (start .pre .0) (c .before .if1 .left))
+    (viewport-on-screen p (start .pre .0), few-gathered p (start .pre .0), not-printed p (start .args .b) (start .pre .0) (sym (c .before .before .is-printed .ensures) ∙ c .before .if1 .left))
 
 carry-out-requires : tie.Need-carry-out-requires
 carry-out-requires c κs =
@@ -38,6 +49,9 @@ pub carry-byte-spec : {M : Type 1} → statement M
 carry-byte-spec =
     tie.close
     (tie.spec
+    is-printed-requires
+    mode-of-requires
+    stored-byte-requires
     carry-code-requires
     same-length
     returns

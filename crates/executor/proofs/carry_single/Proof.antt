@@ -1,0 +1,54 @@
+-- `executor::carry_single` meets its contract: a printing code, or a stream of the one byte. Assumes nothing.
+use mathlib.Core.Path.{sym, _∙_}
+use Rattle.executor.proofs.Carrying.{stored-as, single-carried, same-size}
+use borrow.Author.Needs.{needs}
+use Rattle.executor.proofs.carry_single.Statement.{statement}
+use Rattle.executor.proofs.carry_single.Tie as tie
+
+is-printed-requires : tie.Need-is-printed-requires
+is-printed-requires c κs = search needs
+
+mode-of-requires : tie.Need-mode-of-requires
+mode-of-requires c κs = search needs
+
+stored-alone-requires : tie.Need-stored-alone-requires
+stored-alone-requires c κs = search needs
+
+carry-code-requires : tie.Need-carry-code-requires
+carry-code-requires c κs =
+    let start = c .before .before .before .before .before .before in
+    let byte = stored-as (start .args .p .view) _ (start .args .b) (c .before .stored-alone .ensures) (c .before .before .mode-of .ensures) in
+    (start .pre .0, start .pre .1, sym (c .before .before .before .before .is-printed .ensures) ∙ c .before .before .before .if1 .taken, byte)
+
+same-length : tie.Need-same-length
+same-length c = same-size (c .before .before .carry-code .ensures) (c .before .before .before .before .before .before .before .before .before .pre .1)
+
+returns : tie.Need-returns
+returns c = single-carried _ _ _ _ _ _ (c .before .before .carry-code .ensures)
+
+slice-aggregate-carry-stream : tie.Need-slice-aggregate-carry-stream
+slice-aggregate-carry-stream c = search needs
+
+carry-stream-requires : tie.Need-carry-stream-requires
+carry-stream-requires c κs = search needs
+
+same-length-2 : tie.Need-same-length-2
+same-length-2 c = same-size (c .before .before .carry-stream .ensures) (c .before .before .before .before .before .before .before .before .pre .1)
+
+returns-2 : tie.Need-returns-2
+returns-2 c = c .before .before .carry-stream .ensures
+
+pub carry-single-spec : {M : Type 1} → statement M
+carry-single-spec =
+    tie.close
+    (tie.spec
+    is-printed-requires
+    mode-of-requires
+    stored-alone-requires
+    carry-code-requires
+    same-length
+    returns
+    slice-aggregate-carry-stream
+    carry-stream-requires
+    same-length-2
+    returns-2)

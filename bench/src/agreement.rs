@@ -1,17 +1,18 @@
 //! Whether all consoles end a stream alike, before they are timed.
 
+use crate::check::agree;
 use crate::drivers::{printed, Peer, Task};
 use crate::expected;
 use crate::harness::{Harness, Length};
+use crate::workloads::PAGE_SIZE;
 use std::fs::{read, File};
 use std::process::Command;
 
-const PAGE: usize = 65536;
 const PIECE: usize = 7;
 
-/// Each workload and console that differ. The plain C console sets what
-/// the others must show; it is itself compared with the reference.
-pub fn differences(harness: &Harness, peers: &[Peer]) -> Result<Vec<String>, String> {
+/// Fails if consoles differ on some workload. The plain C console sets
+/// what the others must show; it is itself compared with the reference.
+pub fn compare(harness: &Harness, peers: &[Peer]) -> Result<(), String> {
     let mut found = Vec::new();
     for units in harness.units(Length::Long)? {
         if !plain_c_is_right(harness, &units.name)? {
@@ -23,7 +24,12 @@ pub fn differences(harness: &Harness, peers: &[Peer]) -> Result<Vec<String>, Str
             }
         }
     }
-    Ok(found)
+    agree(found)?;
+    println!(
+        "All consoles below show the same 24 lines after every workload, and in pieces of \
+         7 bytes; the plain C console has the reference program's cells, cursor and bells."
+    );
+    Ok(())
 }
 
 /// Its cells, cursor and bells by the program that the harness builds of
@@ -44,7 +50,7 @@ fn shows_the_same(
     peer: &Peer,
     name: &str,
 ) -> Result<bool, String> {
-    let whole = |length| Task { length, name, chunk: PAGE };
+    let whole = |length| Task { length, name, chunk: PAGE_SIZE };
     let cut =
         Task { length: Length::Short, name, chunk: if peer.one_byte_call { 0 } else { PIECE } };
     if peer.dump(harness, cut)? != plain_c.dump(harness, whole(Length::Short))? {

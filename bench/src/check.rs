@@ -5,23 +5,74 @@ use crate::end::end_of;
 use crate::feed::Feed;
 use crate::library::LIBRARY;
 use crate::reference;
+use crate::table::with_commas;
 use crate::workloads::{Workload, PAGE};
 
 /// Whole, cut into pieces, and byte by byte in two ways.
 const FEEDS: [Feed; 5] =
     [Feed::Writes(usize::MAX), PAGE, Feed::Writes(7), Feed::Writes(1), Feed::Bytes];
 
-/// Each workload whose screen, cursor or bells differ, and how.
-pub fn differences(workloads: &[Workload]) -> Vec<String> {
+/// Line feeds in the end leave nothing to see; after so many bytes the
+/// lines of text have moved, and some are left.
+const PART: usize = 1985;
+
+/// How many differences are told of.
+const SHOWN: usize = 5;
+
+/// Fails if on some workload the screens, cursors or bells differ.
+pub fn compare(workloads: &[Workload]) -> Result<(), String> {
     let mut found = Vec::new();
     for workload in workloads {
-        let wanted = end_of(|screen| reference::run(&workload.stream, PAGE, screen));
-        for feed in FEEDS {
-            let given = end_of(|screen| LIBRARY.run(&workload.stream, feed, screen));
-            if let Some(difference) = wanted.difference(&given) {
-                found.push(format!("{}, {:?}: {}", workload.name, feed, difference));
-            }
+        let whole = workload.stream.len();
+        for length in [whole, whole.min(PART)] {
+            found.extend(differences(&workload.name, &workload.stream[..length]));
+        }
+    }
+    agree(found)?;
+    println!(
+        "Library and reference program leave the same screen, cursor and bells after every \
+         workload and after its first {} bytes: whole, in pieces of 65,536 and of 7 bytes, \
+         and one byte a call, by value and by the one-byte call.",
+        with_commas(PART as u64)
+    );
+    Ok(())
+}
+
+/// No table without agreement. A few differences tell enough.
+pub fn agree(differences: Vec<String>) -> Result<(), String> {
+    if differences.is_empty() {
+        return Ok(());
+    }
+    let shown = &differences[..differences.len().min(SHOWN)];
+    Err(format!(
+        "nothing is measured, as {} results differ; the first:\n{}",
+        differences.len(),
+        shown.join("\n")
+    ))
+}
+
+fn differences(name: &str, stream: &[u8]) -> Vec<String> {
+    let wanted = end_of(|screen| reference::run(stream, PAGE, screen));
+    let mut found = Vec::new();
+    for feed in FEEDS {
+        let given = end_of(|screen| LIBRARY.run(stream, feed, screen));
+        if let Some(difference) = wanted.difference(&given) {
+            found.push(format!(
+                "{}, {} bytes {}: {}",
+                name,
+                stream.len(),
+                in_words(feed),
+                difference
+            ));
         }
     }
     found
+}
+
+fn in_words(feed: Feed) -> String {
+    match feed {
+        Feed::Writes(usize::MAX) => "in one write".to_string(),
+        Feed::Writes(size) => format!("in writes of {}", size),
+        Feed::Bytes => "by the one-byte call".to_string(),
+    }
 }

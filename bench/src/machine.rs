@@ -1,21 +1,5 @@
 //! What a reader needs beside a table.
 
-/// No table without agreement.
-pub fn agree(differences: Vec<String>) -> Result<(), String> {
-    if differences.is_empty() {
-        return Ok(());
-    }
-    Err(format!("nothing is measured, as results differ:\n{}", differences.join("\n")))
-}
-
-pub fn say_same(sides: &str) {
-    println!(
-        "Screen, cursor and bells of {} are the same after every workload: \
-         whole, in pieces of 65,536 and of 7 bytes, and byte by byte.",
-        sides
-    );
-}
-
 pub fn say_how(rounds: usize) {
     println!(
         "Buffers are cleared first: before each round the screen is filled with blanks, \

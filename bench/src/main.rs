@@ -3,6 +3,7 @@
 //! Usage: bench own ROUNDS
 //!        bench peers FOLDER ROUNDS
 //!        bench instructions FOLDER DRIVER [C_DRIVER]
+//!        bench sizes NOTES DISASSEMBLY
 //!
 //! The exit status is 0 if the tables were printed, 1 if something
 //! failed or results differ, 2 if the arguments are wrong.
@@ -30,14 +31,19 @@ mod clock;
 mod drivers;
 mod end;
 mod feed;
+mod frames;
 mod harness;
 mod instructions;
+mod json;
+mod layout;
 mod library;
 mod machine;
 mod measure;
 mod own;
 mod peers;
 mod reference;
+mod sizes;
+mod stack;
 mod table;
 
 mod workloads;
@@ -46,7 +52,8 @@ use std::process::exit;
 
 const USAGE: &str = "usage: bench own ROUNDS
        bench peers FOLDER ROUNDS
-       bench instructions FOLDER DRIVER [C_DRIVER]";
+       bench instructions FOLDER DRIVER [C_DRIVER]
+       bench sizes NOTES DISASSEMBLY";
 
 fn main() {
     let arguments: Vec<String> = std::env::args().skip(1).collect();
@@ -67,12 +74,17 @@ fn main() {
 fn asked(arguments: &[String]) -> Option<Result<(), String>> {
     let (part, arguments) = arguments.split_first()?;
     match (part.as_str(), arguments) {
-        ("own", [rounds]) => Some(own::run(rounds.parse().ok()?)),
-        ("peers", [folder, rounds]) => Some(peers::run(folder, rounds.parse().ok()?)),
+        ("own", [rounds]) => Some(own::run(at_least_one(rounds)?)),
+        ("peers", [folder, rounds]) => Some(peers::run(folder, at_least_one(rounds)?)),
         ("instructions", [folder, ours]) => Some(instructions::run(folder, ours, None)),
         ("instructions", [folder, ours, plain_c]) => {
             Some(instructions::run(folder, ours, Some(plain_c)))
         }
+        ("sizes", [notes, disassembly]) => Some(sizes::run(notes, disassembly)),
         _ => None,
     }
+}
+
+fn at_least_one(rounds: &str) -> Option<usize> {
+    rounds.parse().ok().filter(|&rounds| rounds > 0)
 }

@@ -32,8 +32,10 @@ pub fn take_turns(
                 comparison.turn(round, times)?;
             }
         }
-        eprintln!("bench: round {} of {} done", round + 1, rounds);
+        // Over the last such line, as there may be many rounds.
+        eprint!("\rbench: round {} of {}", round + 1, rounds);
     }
+    eprintln!();
     Ok(times)
 }
 

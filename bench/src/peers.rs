@@ -2,14 +2,13 @@
 //! with the same command line, on the streams of the harness.
 
 use crate::agreement;
-use crate::check::differences;
+use crate::check;
 use crate::drivers::{peers, Peer, Task};
 use crate::harness::{Harness, Length};
 use crate::machine;
 use crate::measure::{largest_spread, take_turns, Comparison, Side, Times};
 use crate::table::{number, Table};
-
-const PAGE: usize = 65536;
+use crate::workloads::PAGE_SIZE;
 
 /// Rounds of a slow console, and repeats of a short workload.
 const FEW: usize = 3;
@@ -32,13 +31,8 @@ struct Timed {
 pub fn run(folder: &str, rounds: usize) -> Result<(), String> {
     let harness = Harness::new(folder);
     let (peers, left_out) = peers(&harness);
-    machine::agree(differences(&harness.workloads()?))?;
-    machine::say_same("library and reference program");
-    machine::agree(agreement::differences(&harness, &peers)?)?;
-    println!(
-        "All consoles below show the same 24 lines after every workload, and in pieces of \
-         7 bytes; the plain C console has the reference program's cells, cursor and bells."
-    );
+    check::compare(&harness.workloads()?)?;
+    agreement::compare(&harness, &peers)?;
     if !left_out.is_empty() {
         println!("Left out, as no driver was built: {}.", left_out.join(", "));
     }
@@ -84,7 +78,7 @@ impl Column {
     fn task(&self, peer: &Peer) -> Option<Task<'_>> {
         let (length, chunk) = match (self.one_byte, peer.one_byte_call) {
             (false, true) => return None,
-            (false, false) => (peer.length(), PAGE),
+            (false, false) => (peer.length(), PAGE_SIZE),
             (true, true) => (Length::Short, 0),
             (true, false) => (Length::Short, 1),
         };

@@ -13,8 +13,9 @@ pub struct Workload {
     pub feed: Feed,
 }
 
-/// Large enough that the calls themselves do not count.
-pub const PAGE: Feed = Feed::Writes(65536);
+/// Pieces so large that the calls themselves do not count.
+pub const PAGE_SIZE: usize = 65536;
+pub const PAGE: Feed = Feed::Writes(PAGE_SIZE);
 
 const SEED: u64 = 1;
 const COLUMNS: u64 = 80;

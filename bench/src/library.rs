@@ -7,18 +7,13 @@ use crate::feed::{Answer, Feed};
 
 pub type RunStream =
     unsafe extern "C" fn(*const u8, usize, usize, *mut u8, usize, *mut u8, usize) -> usize;
-pub type RunBytes = unsafe extern "C" fn(*const u8, usize, *mut u8, usize, *mut u8, usize) -> usize;
 
-/// The calls that run a stream on a fresh plain console. As pointers, so
-/// that others can stand in their place.
+/// The call that runs a stream on a fresh plain console. As a pointer, so
+/// that another can stand in its place.
 #[derive(Clone, Copy)]
-pub struct Calls {
-    pub run_stream: RunStream,
-    pub run_bytes: RunBytes,
-}
+pub struct Call(pub RunStream);
 
-pub const LIBRARY: Calls =
-    Calls { run_stream: combthrift_run_stream, run_bytes: combthrift_run_bytes };
+pub const LIBRARY: Call = Call(combthrift_run_stream);
 
 extern "C" {
     fn combthrift_run_stream(
@@ -30,32 +25,25 @@ extern "C" {
         answer: *mut u8,
         answer_length: usize,
     ) -> usize;
-
-    fn combthrift_run_bytes(
-        bytes: *const u8,
-        bytes_length: usize,
-        screen: *mut u8,
-        screen_length: usize,
-        answer: *mut u8,
-        answer_length: usize,
-    ) -> usize;
 }
 
-impl Calls {
+impl Call {
     /// Hands a stream to a fresh console and the lent screen. Never
     /// inlined, so that its own frame is the same whatever it calls.
     #[inline(never)]
     pub fn run(&self, stream: &[u8], feed: Feed, screen: &mut [u8]) -> Answer {
         let mut answer: Answer = [0; 7];
-        let (bytes, length) = (stream.as_ptr(), stream.len());
-        let (cells, count) = (screen.as_mut_ptr(), screen.len());
-        let (lent, room) = (answer.as_mut_ptr(), answer.len());
-        match feed {
-            Feed::Writes(size) => unsafe {
-                (self.run_stream)(bytes, length, size, cells, count, lent, room)
-            },
-            Feed::Bytes => unsafe { (self.run_bytes)(bytes, length, cells, count, lent, room) },
-        };
+        unsafe {
+            (self.0)(
+                stream.as_ptr(),
+                stream.len(),
+                feed.size(),
+                screen.as_mut_ptr(),
+                screen.len(),
+                answer.as_mut_ptr(),
+                answer.len(),
+            );
+        }
         answer
     }
 }

@@ -3,15 +3,15 @@
 use crate::feed::Feed;
 use crate::frames::Object;
 use crate::layout::Types;
-use crate::library::{Calls, LIBRARY};
+use crate::library::{Call, LIBRARY};
 use crate::numbers::Numbers;
 use crate::port::{BLANK, SCREEN_SIZE};
 use crate::stack::used;
 use crate::table::{texts, with_commas, Table};
 use crate::workloads::{all, PAGE};
 
-/// Calls that do nothing, to see what the stack holds without the library.
-const NOTHING: Calls = Calls { run_stream: no_stream, run_bytes: no_bytes };
+/// A call that does nothing, to see what the stack holds without the library.
+const NOTHING: Call = Call(no_stream);
 
 /// The place to return to, which a call that does nothing has as well.
 const RETURN_PLACE: usize = 8;
@@ -54,12 +54,9 @@ fn print_state(types: &Types, object: &Object) -> Result<(), String> {
 
 fn print_stack(object: &Object) {
     let mut table = Table::new(&texts(&["", "reserved", "touched"]));
-    let touched = |feeds: &[Feed]| with_commas(deepest(feeds) as u64);
-    let rows = [
-        ("console::write", "-".to_string()),
-        ("combthrift_run_stream", touched(&[PAGE, Feed::Writes(7), Feed::Writes(1)])),
-        ("combthrift_run_bytes", touched(&[Feed::Bytes])),
-    ];
+    let feeds = [PAGE, Feed::Writes(7), Feed::Writes(1), Feed::Bytes];
+    let touched = with_commas(deepest(&feeds) as u64);
+    let rows = [("console::write", "-".to_string()), ("combthrift_run_stream", touched)];
     for (name, touched) in rows {
         if object.has(name) {
             let (reserved, _) = object.deepest(name);
@@ -82,10 +79,10 @@ fn deepest(feeds: &[Feed]) -> usize {
 }
 
 fn touched(stream: &[u8], feed: Feed) -> usize {
-    let depth = |calls: Calls| {
+    let depth = |call: Call| {
         let mut screen = [BLANK; SCREEN_SIZE];
         used(&mut || {
-            calls.run(stream, feed, &mut screen);
+            call.run(stream, feed, &mut screen);
         })
     };
     depth(LIBRARY) - depth(NOTHING) + RETURN_PLACE
@@ -94,17 +91,6 @@ fn touched(stream: &[u8], feed: Feed) -> usize {
 unsafe extern "C" fn no_stream(
     _: *const u8,
     _: usize,
-    _: usize,
-    _: *mut u8,
-    _: usize,
-    _: *mut u8,
-    _: usize,
-) -> usize {
-    0
-}
-
-unsafe extern "C" fn no_bytes(
-    _: *const u8,
     _: usize,
     _: *mut u8,
     _: usize,

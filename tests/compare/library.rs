@@ -22,24 +22,25 @@ extern "C" {
         answer: *mut u8,
         answer_length: usize,
     ) -> usize;
-
-    fn combthrift_run_bytes(
-        bytes: *const u8,
-        bytes_length: usize,
-        screen: *mut u8,
-        screen_length: usize,
-        answer: *mut u8,
-        answer_length: usize,
-    ) -> usize;
 }
 
 /// How a stream is handed over.
 #[derive(Clone, Copy, Debug, PartialEq, Eq)]
 pub enum Feed {
-    /// In writes of at most so many bytes; 0 counts as 1.
+    /// In writes of at most so many bytes, 1 or more.
     Writes(usize),
     /// By the one-byte call, on a port that is changed where it lies.
     Bytes,
+}
+
+impl Feed {
+    /// The size that the library takes: 0 stands for the one-byte call.
+    fn size(self) -> usize {
+        match self {
+            Feed::Writes(size) => size,
+            Feed::Bytes => 0,
+        }
+    }
 }
 
 /// Runs a script on a fresh wall and the lent screen. The answers go to
@@ -62,27 +63,15 @@ pub fn run_script(script: &[u8], screen: &mut [u8], answers: &mut [u8]) -> usize
 /// byte first, the cursor's column and line. Gives 7; or 0, with nothing
 /// done, if fewer bytes are lent for it.
 pub fn run_stream(bytes: &[u8], feed: Feed, screen: &mut [u8], answer: &mut [u8]) -> usize {
-    match feed {
-        Feed::Writes(size) => unsafe {
-            combthrift_run_stream(
-                bytes.as_ptr(),
-                bytes.len(),
-                size,
-                screen.as_mut_ptr(),
-                screen.len(),
-                answer.as_mut_ptr(),
-                answer.len(),
-            )
-        },
-        Feed::Bytes => unsafe {
-            combthrift_run_bytes(
-                bytes.as_ptr(),
-                bytes.len(),
-                screen.as_mut_ptr(),
-                screen.len(),
-                answer.as_mut_ptr(),
-                answer.len(),
-            )
-        },
+    unsafe {
+        combthrift_run_stream(
+            bytes.as_ptr(),
+            bytes.len(),
+            feed.size(),
+            screen.as_mut_ptr(),
+            screen.len(),
+            answer.as_mut_ptr(),
+            answer.len(),
+        )
     }
 }

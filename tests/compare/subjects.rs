@@ -14,8 +14,7 @@ pub enum Subject<'a> {
 }
 
 /// How the library is fed. The largest write cuts no stream.
-pub const FEEDS: [Feed; 6] = [
-    Feed::Writes(0),
+pub const FEEDS: [Feed; 5] = [
     Feed::Writes(1),
     Feed::Writes(2),
     Feed::Writes(7),

@@ -154,23 +154,19 @@ fn put_end(screen: &mut [u8], end: Session, answer: &mut [u8])
     answer[6] = view.line;
 }
 
-fn fresh_session() -> Session {
-    Session {
+// The bytes to a fresh plain console in writes of at most size bytes, or, where size is 0, by the one-byte call.
+fn run(screen: &mut [u8], bytes: &[u8], size: usize) -> Session {
+    let fresh = Session {
         port: fresh_console(),
         bells: 0,
-    }
-}
-
-fn at_least_1(size: usize) -> usize
-    ensures { λ r. ⌜ 0 < r ⌝ }
-{
+    };
     if size == 0 {
-        return 1;
+        return hand_over_bytes(screen, fresh, bytes);
     }
-    size
+    hand_over_all(screen, fresh, bytes, size)
 }
 
-// Hands a stream to a fresh plain console in writes of at most size bytes; 0 counts as 1.
+// Hands a stream to a fresh plain console, as `run` does.
 // The result is the length of the answer, or 0 where there is no room for it and nothing was done.
 #[no_mangle]
 pub extern "C" fn combthrift_run_stream(
@@ -182,22 +178,7 @@ pub extern "C" fn combthrift_run_stream(
     if answer.len() < 7 {
         return 0;
     }
-    let end = hand_over_all(screen, fresh_session(), bytes, at_least_1(size));
-    put_end(screen, end, answer);
-    7
-}
-
-// The same by the one-byte call.
-#[no_mangle]
-pub extern "C" fn combthrift_run_bytes(
-    bytes: &[u8],
-    screen: &mut [u8],
-    answer: &mut [u8],
-) -> usize {
-    if answer.len() < 7 {
-        return 0;
-    }
-    let end = hand_over_bytes(screen, fresh_session(), bytes);
+    let end = run(screen, bytes, size);
     put_end(screen, end, answer);
     7
 }

@@ -18,7 +18,7 @@ use Rattle.port.specs.State.{rectOf, zeroView, defaultView, freshPort}
 use Rattle.port.specs.Valid.{legal, within, cursorInside, validView, zeroRect, noFlags, isZeroView, validSaved, parameters, usedOrZero, unusedZero, countFits, validWait, valid}
 use Rattle.port.specs.Codes.{moveCursorRight, modeOf, storeCell, advanced, printByte, print}
 use Rattle.port.specs.Effect.{cursorAt}
-use Rattle.port.specs.Step.{withView, obey, step}
+use Rattle.port.specs.Step.{withView, control, obey, step}
 use Rattle.port.specs.Stream.{stream}
 use Rattle.block.specs.Block.{blockLength, blockFits, blockPlace}
 use Rattle.block.proofs.Restores.{restored-inside}
@@ -115,7 +115,7 @@ wroteIn home s bytes stored bells = record {
 }
 
 wrote-7 : (s : List ℕ) → written (freshPort leftPane) s (0x41 ∷ 0x07 ∷ []) ≡ wroteIn leftPane s (0x41 ∷ 0x07 ∷ []) 0x81 1
-unfolding wroteIn written draw stream step parameters obey print printByte storeCell advanced moveCursorRight modeOf storedByte storedSymbol storedCapital storedHigh inRange
+unfolding wroteIn written draw stream step parameters control obey print printByte storeCell advanced moveCursorRight modeOf storedByte storedSymbol storedCapital storedHigh inRange
 wrote-7 s = refl
 
 wrote-200 : (s : List ℕ) → written (freshPort rightPane) s (0x42 ∷ []) ≡ wroteIn rightPane s (0x42 ∷ []) 0x82 0

@@ -9,7 +9,7 @@ use lib.ListN.{length, getD, set, length-set}
 use Rattle.screen.specs.Edit.{draw}
 use Rattle.screen.proofs.Tests.{not-both}
 use Rattle.port.specs.Valid.{parameters}
-use Rattle.port.specs.Step.{obey, step}
+use Rattle.port.specs.Step.{control, obey, step}
 use Rattle.port.specs.Stream.{stream}
 use Rattle.block.specs.Block.{blockLength, rowStart, rowCells, rowsFrom, blockOf}
 use Rattle.console.specs.Calls.{written, blockReturned}
@@ -36,7 +36,7 @@ empties n = request Write n [] ∷ []
 
 -- one that serves the first slot whatever the number: client 200 turns client 7's text inverse
 not-first-slot : Isolation (onSlot 0) → ⊥
-unfolding pair inverts serveAll requestsOf standalone written stream step parameters obey
+unfolding pair inverts serveAll requestsOf standalone written stream step parameters control obey
 not-first-slot d = not-both refl (ap (λ (x : Slot). x .port .view .inverse) (d .isolated pair blankScreen (inverts 200) pair-valid blank-length .ports 0 left-open))
 
 -- one that does nothing, and says that it is done
@@ -44,7 +44,7 @@ doesNothing : Server
 doesNothing m s c = refusal Done m s (c .request .block)
 
 not-nothing : Isolation doesNothing → ⊥
-unfolding doesNothing pair inverts serveAll requestsOf standalone written stream step parameters obey
+unfolding doesNothing pair inverts serveAll requestsOf standalone written stream step parameters control obey
 not-nothing d = not-both (ap (λ (x : Slot). x .port .view .inverse) (d .isolated pair blankScreen (inverts 7) pair-valid blank-length .ports 0 left-open)) refl
 
 -- the number of the first answer

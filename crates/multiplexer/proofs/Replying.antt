@@ -120,14 +120,14 @@ module _ (call : Port → List ℕ → List ℕ → console.Reply) (m : Multiple
   relayed-at size v k = simp (eq-eqb _ _ size, v, k)
 
   -- served: what the console replied, to the slot's port
-  pub client-served : (i : ℕ) (x : console-answer.Answer) (r : Answer) (t after : List ℕ) → j ≡ At i → console.Replies (console.judged call (slotAt m i .port) s block) x t after
+  pub client-served : (i : ℕ) (p : Port) (x : console-answer.Answer) (r : Answer) (t after : List ℕ) → j ≡ At i → p ≡ slotAt m i .port → console.Replies (console.judged call p s block) x t after
       → r ≡ answerWith (statusOf (x .status)) (withPort m i (x .port)) (x .count)
       → Replies (onClient call m s n block) r t after
-  client-served i x r t after e d a =
+  client-served i p x r t after e at d a =
       let fits = found-on m (length s) n i j is e in
       let f = fits .1 in
       let heard : console.Reply = call (slotAt m i .port) s block in
-      let k = subst (λ (y : console.Reply). console.Replies y x t after) (console-answers.accepted call (slotAt m i .port) s block (f .port) (fits .0)) d in
+      let k = subst (λ (y : console.Reply). console.Replies y x t after) (ap (λ (q : Port). console.judged call q s block) at ∙ console-answers.accepted call (slotAt m i .port) s block (f .port) (fits .0)) d in
       subst (λ (y : Reply). Replies y r t after) (sym (relays i (fits .0) f))
       (by-answer (relayed m i heard) r (statusOf (x .status)) (withPort m i (x .port)) (x .count) t after a (ap statusOf (k .status-is)) (ap (withPort m i) (k .port-is)) (k .count-is) (k .cells) (k .bytes))
     where

@@ -10,6 +10,7 @@ use slots::lookup::find_client;
 use slots::lookup::has_client;
 use slots::lookup::pane_shared;
 use slots::new_slot;
+use slots::port_at;
 use slots::valid::valid_multiplexer;
 use slots::with_port;
 use slots::with_slot;
@@ -138,11 +139,7 @@ pub fn write(m: Multiplexer, screen: &mut [u8], client: u8, bytes: &[u8]) -> Ans
     let located = locate_on(m, screen.len(), client);
     match located {
         Located::Refused(status) => answer_with(status, m, 0),
-        Located::At(i) => {
-            let slot = m.slots[i];
-            let port = slot.port;
-            relay(m, i, console::write(port, screen, bytes))
-        }
+        Located::At(i) => relay(m, i, console::write(port_at(m, i), screen, bytes)),
     }
 }
 
@@ -153,11 +150,7 @@ pub fn return_block(m: Multiplexer, screen: &[u8], client: u8, block: &mut [u8])
     let located = locate_on(m, screen.len(), client);
     match located {
         Located::Refused(status) => answer_with(status, m, 0),
-        Located::At(i) => {
-            let slot = m.slots[i];
-            let port = slot.port;
-            relay(m, i, console::return_block(port, screen, block))
-        }
+        Located::At(i) => relay(m, i, console::return_block(port_at(m, i), screen, block)),
     }
 }
 
@@ -168,11 +161,7 @@ pub fn restore_block(m: Multiplexer, screen: &mut [u8], client: u8, block: &[u8]
     let located = locate_on(m, screen.len(), client);
     match located {
         Located::Refused(status) => answer_with(status, m, 0),
-        Located::At(i) => {
-            let slot = m.slots[i];
-            let port = slot.port;
-            relay(m, i, console::restore_block(port, screen, block))
-        }
+        Located::At(i) => relay(m, i, console::restore_block(port_at(m, i), screen, block)),
     }
 }
 

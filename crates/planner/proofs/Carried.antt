@@ -12,7 +12,7 @@ use Rattle.port.specs.declared.Port.{Port}
 use Rattle.port.specs.Valid.{parameters}
 use Rattle.port.specs.Effect.{Effect, becomes}
 use Rattle.port.specs.Codes.{spaces, dleSpaceExpansion}
-use Rattle.port.specs.Step.{withView, becomesPort, onView, ringBell, gatherOne, obey, perform, parameter, step}
+use Rattle.port.specs.Step.{withView, becomesPort, onView, ringBell, gatherOne, control, obey, perform, parameter, step}
 use Rattle.view.specs.declared.Moved.{Moved}
 use Rattle.view.specs.declared.ViewPlan.{ViewPlan}
 use Rattle.view.specs.Plan.{effectOf, planEffect}
@@ -72,7 +72,7 @@ pub in-view : {q : Port} (p : Port) (u v : View) → q ≡ withView p u → u �
 in-view p u v e f = e ∙ ap (withView p) f
 
 -- a code by its number
-pub at-code : (r : Plan) (p : Port) (code k : ℕ) → code ≡ k → carriedOut r ≡ obey p k → carriedOut r ≡ obey p code
+pub at-code : (r : Plan) (p : Port) (code k : ℕ) → code ≡ k → carriedOut r ≡ control p k → carriedOut r ≡ control p code
 at-code r p code k e h = rw e h
 
 -- none of the codes below n: what the last arm of a `match` on 0, 1, .. knows
@@ -110,14 +110,14 @@ module _ (r : Plan) (p : Port) (b n : ℕ) (counted : n ≡ parameters (p .waiti
   unfolding parameter
   is-last h e = simp (le-ltb (p .count + 1) (parameters (p .waiting)) (omega arith)) e
 
-  -- a byte is a parameter or a code
+  -- a byte is a parameter or a control code
   pub is-parameter : 0 < n → carriedOut r ≡ parameter p b → carriedOut r ≡ step p b
   unfolding step
   is-parameter h e = simp (lt-ltb 0 (parameters (p .waiting)) (omega arith)) e
 
-  pub is-code : n ≤ 0 → carriedOut r ≡ obey p b → carriedOut r ≡ step p b
-  unfolding step
-  is-code h e = simp (le-ltb 0 (parameters (p .waiting)) (omega arith)) e
+  pub is-code : n ≤ 0 → b < 32 → carriedOut r ≡ control p b → carriedOut r ≡ step p b
+  unfolding step obey
+  is-code h small e = simp (le-ltb 0 (parameters (p .waiting)) (omega arith), lt-ltb b 32 small) e
 
 -- what the arms of a `match` on a code come to
 pub ruleset arms = (at-code, carried-port, carried-bell, carried-view, carried-moved, plans)

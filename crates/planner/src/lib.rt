@@ -84,9 +84,9 @@ fn planned(port: Port, to: ViewPlan) -> Plan
 }
 
 // A control code: each by its own arm, and the last is $1F.
-fn obey(p: Port, code: u8) -> Plan
+fn control(p: Port, code: u8) -> Plan
     requires { ⌜ code < 32 ⌝ }
-    ensures { λ r. ⌜ carriedOut r ≡ rules.obey p code ⌝ }
+    ensures { λ r. ⌜ carriedOut r ≡ rules.control p code ⌝ }
 {
     let v = p.view;
     match code {
@@ -178,5 +178,5 @@ pub fn plan_byte(p: Port, b: u8) -> Plan
     if 0 < parameters(p.waiting) {
         return parameter(p, b);
     }
-    obey(p, b)
+    control(p, b)
 }

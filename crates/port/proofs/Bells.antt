@@ -1,16 +1,16 @@
 -- What a byte rings, and what waits after it, are what waiting and gathering alone say. Assumes nothing.
-use Prim.Native.Nat.{ℕ, _+_, _≤_}
+use Prim.Native.Nat.{ℕ, _+_, _≤_, _<_}
 use mathlib.Core.Path.{_≡_, refl, ap, _∙_}
 use mathlib.Core.Bool.{Bool, true, false, cond}
 use mathlib.Core.List.{List, [], _∷_}
 use native.Mathlib.Nat.{zero-add}
 use native.Mathlib.Omega.{arith}
-use lib.Dec.{ltb, eqb}
-use borrow.Author.Tests.{eqb-true}
+use lib.Dec.{T, ltb, eqb, ltb→lt}
+use borrow.Author.Tests.{eqb-true, ltb-false, ne-eqb}
 use Rattle.screen.proofs.Tests.{by-test}
 use Rattle.port.specs.declared.Port.{Port}
 use Rattle.port.specs.Valid.{parameters}
-use Rattle.port.specs.Step.{Outcome, becomesPort, gatherOne, pop, obey, perform, parameter, step}
+use Rattle.port.specs.Step.{Outcome, becomesPort, gatherOne, pop, control, obey, perform, parameter, step}
 use Rattle.port.specs.Stream.{stream}
 use Rattle.port.specs.Commands.{Wait, wants, nextWait, commandCodes, occurrences, waitOf}
 
@@ -34,9 +34,9 @@ module _ (p : Port) (code : ℕ) where
   arm : (k : ℕ) (m : Outcome) → m .bells ≡ rings k → waitOf (m .port) ≡ after p k → eqb code k ≡ true → Obeyed m
   arm k m r w t = let same = eqb-true code k t in record { rung = r ∙ rw same; waits = w ∙ rw same }
 
-  obeyed : Obeyed (obey p code)
-  unfolding obey parameters pop
-  obeyed =
+  controlled : Obeyed (control p code)
+  unfolding control parameters pop
+  controlled =
       by-test Obeyed (eqb code 0x00) (arm 0x00 _ refl refl) λ _.
       by-test Obeyed (eqb code 0x01) (arm 0x01 _ refl refl) λ _.
       by-test Obeyed (eqb code 0x02) (arm 0x02 _ refl refl) λ n02.
@@ -68,8 +68,17 @@ module _ (p : Port) (code : ℕ) where
       by-test Obeyed (eqb code 0x1c) (arm 0x1c _ refl refl) λ _.
       by-test Obeyed (eqb code 0x1d) (arm 0x1d _ refl refl) λ _.
       by-test Obeyed (eqb code 0x1e) (arm 0x1e _ refl refl) λ n1e.
-      by-test Obeyed (eqb code 0x1f) (arm 0x1f _ refl refl) λ _.
       record { rung = simp n07; waits = simp (n02, n05, n06, n10, n14, n15, n1e) }
+
+  -- a printing code is no control code
+  other : ltb code 32 ≡ false → (k : ℕ) → T (ltb k 32) → eqb code k ≡ false
+  other large k small = let h : 32 ≤ code = ltb-false code 32 large in let below : k < 32 = ltb→lt k 32 small in ne-eqb code k (λ e. omega arith)
+
+  obeyed : Obeyed (obey p code)
+  unfolding obey parameters
+  obeyed =
+      by-test Obeyed (ltb code 32) (λ _. controlled)
+      (λ large. let no = other large in record { rung = simp (no 7 tt); waits = simp (no 0x02 tt, no 0x05 tt, no 0x06 tt, no 0x10 tt, no 0x14 tt, no 0x15 tt, no 0x1e tt) })
 
 -- a parameter rings nothing
 record Quiet (w : Wait) (m : Outcome) : Type 0 where

@@ -16,7 +16,7 @@ use Rattle.port.specs.declared.Port.{Port}
 use Rattle.port.specs.State.{noParameters}
 use Rattle.port.specs.Valid.{parameters, usedOrZero, unusedZero, countFits, validWait, ValidView, ValidWait, Valid}
 use Rattle.port.specs.Effect.{Effect}
-use Rattle.port.specs.Step.{withView, becomesPort, onView, pushAndReset, pop, waitFor, obey, perform, parameter, step}
+use Rattle.port.specs.Step.{withView, becomesPort, onView, pushAndReset, pop, waitFor, control, obey, perform, parameter, step}
 use Rattle.port.specs.Keeps.{KeepsView, KeepsPort}
 use Rattle.port.proofs.Validity.{no-parameters, default-valid, none-waits, decides-wait}
 use Rattle.port.proofs.Views.{keeps-right, keeps-print, keeps-line-start, keeps-line-end, keeps-clear-line, keeps-clear-port, keeps-port-start, keeps-port-end, keeps-horizontal-scroll, keeps-vertical, keeps-horizontal, keeps-goto, keeps-backspace, keeps-line-feed, keeps-return, keeps-modes, keeps-flags, keeps-home-cursor, keeps-moves, keeps-up, keeps-dle, size-valid}
@@ -61,9 +61,9 @@ keeps-performed p h e k =
     let m = keeps-view (waitFor p 0) (waits p h 0 none-waits) e k in
     record { valid = m .valid; home = refl; edits = m .edits }
 
-keeps-obey : (p : Port) → Valid p → (code : ℕ) → KeepsPort p (obey p code)
-unfolding obey parameters validWait countFits unusedZero usedOrZero
-keeps-obey p h code =
+keeps-control : (p : Port) → Valid p → (code : ℕ) → KeepsPort p (control p code)
+unfolding control parameters validWait countFits unusedZero usedOrZero
+keeps-control p h code =
     by-test (KeepsPort p) (eqb code 0x00) (λ _. keeps-idle p h) λ _.
     by-test (KeepsPort p) (eqb code 0x01) (λ _. keeps-push p h) λ _.
     by-test (KeepsPort p) (eqb code 0x02) (λ _. keeps-wait p h 0x02 (decides-wait 0x02 noParameters 0 .holds refl)) λ _.
@@ -95,8 +95,11 @@ keeps-obey p h code =
     by-test (KeepsPort p) (eqb code 0x1c) (λ _. keeps-view p h _ (keeps-right (p .home) (p .view) (h .view))) λ _.
     by-test (KeepsPort p) (eqb code 0x1d) (λ _. keeps-view p h _ (keeps-line-end (p .home) (p .view) (h .view))) λ _.
     by-test (KeepsPort p) (eqb code 0x1e) (λ _. keeps-wait p h 0x1e (decides-wait 0x1e noParameters 0 .holds refl)) λ _.
-    by-test (KeepsPort p) (eqb code 0x1f) (λ _. keeps-view p h _ (keeps-up (p .home) (p .view) (h .view))) λ _.
-    keeps-view p h _ (keeps-print (p .home) (p .view) (h .view) code)
+    keeps-view p h _ (keeps-up (p .home) (p .view) (h .view))
+
+keeps-obey : (p : Port) → Valid p → (code : ℕ) → KeepsPort p (obey p code)
+unfolding obey
+keeps-obey p h code = by-test (KeepsPort p) (ltb code 32) (λ _. keeps-control p h code) (λ _. keeps-view p h _ (keeps-print (p .home) (p .view) (h .view) code))
 
 keeps-perform : (p : Port) → Valid p → (code b : ℕ) → KeepsPort p (perform p code b)
 unfolding perform

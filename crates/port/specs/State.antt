@@ -43,11 +43,11 @@ zeroView = zeros
 abbrev pub noParameters : List ℕ
 noParameters = 0 ∷ 0 ∷ 0 ∷ 0 ∷ []
 
--- every field 0 or false
-abbrev pub zeroPort : Port
-zeroPort = record {
-  home = rectOf 0 0 0 0;
-  view = zeroView;
+-- 'with nothing saved and nothing waiting'
+abbrev pub newPort : Rect → View → Port
+newPort home view = record {
+  home = home;
+  view = view;
   hassaved = false;
   saved = zeroView;
   waiting = 0;
@@ -55,14 +55,10 @@ zeroPort = record {
   count = 0;
 }
 
+-- every field 0 or false
+abbrev pub zeroPort : Port
+zeroPort = newPort (rectOf 0 0 0 0) zeroView
+
 -- 'a fresh port is in the default state, with nothing saved and nothing waiting'
 abbrev pub freshPort : Rect → Port
-freshPort home = record {
-  home = home;
-  view = defaultView home;
-  hassaved = false;
-  saved = zeroView;
-  waiting = 0;
-  gathered = noParameters;
-  count = 0;
-}
+freshPort home = newPort home (defaultView home)

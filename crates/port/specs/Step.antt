@@ -65,9 +65,9 @@ gatherOne p b =
       count = p .count + 1;
     }
 
--- a byte that is a code: each control code by its own arm, and the rest, $20 to $FF, are printed
-unfoldable pub obey : Port → ℕ → Outcome
-obey p code =
+-- a control code, each by its own arm; the last is $1F
+unfoldable pub control : Port → ℕ → Outcome
+control p code =
     cond (eqb code 0x00) (idle p)
     (cond (eqb code 0x01) (becomesPort (pushAndReset p))
     (cond (eqb code 0x02) (becomesPort (waitFor p 0x02))
@@ -99,8 +99,14 @@ obey p code =
     (cond (eqb code 0x1c) (onView p (moveCursorRight (p .view)))
     (cond (eqb code 0x1d) (onView p (clearToLineEnd (p .view)))
     (cond (eqb code 0x1e) (becomesPort (waitFor p 0x1e))
-    (cond (eqb code 0x1f) (onView p (moveCursorUp (p .view)))
-    (onView p (print (p .view) code)))))))))))))))))))))))))))))))))
+    (onView p (moveCursorUp (p .view)))))))))))))))))))))))))))))))))
+
+-- a byte that is a code: below $20 a control code, and the rest, $20 to $FF, are printed
+unfoldable pub obey : Port → ℕ → Outcome
+obey p code =
+    let controlled : Outcome = control p code in
+    let printed : Outcome = onView p (print (p .view) code) in
+    cond (ltb code 32) controlled printed
 
 -- a command with its last parameter b; the seventh and last code that takes parameters is $1E. (What a `let` binds is computed only where it is chosen.)
 unfoldable pub perform : Port → ℕ → ℕ → Outcome

@@ -4,7 +4,7 @@ use super::Port;
 use super::View;
 use screen::Rect;
 ghost use mathlib.Core.Path.{_≡_};
-ghost use Rattle.port.specs.State.{defaultView, zeroView, zeroPort, freshPort};
+ghost use Rattle.port.specs.State.{defaultView, zeroView, newPort, zeroPort, freshPort};
 
 // The viewport is home, the cursor top left, all flags on, normal text.
 pub fn default_view(home: Rect) -> View
@@ -54,34 +54,32 @@ pub fn zero_view() -> View
     }
 }
 
-// Every field 0 or false.
-pub fn zero_port() -> Port
-    ensures { λ r. ⌜ r ≡ zeroPort ⌝ }
+// Nothing saved and nothing waiting.
+fn new_port(home: Rect, view: View) -> Port
+    ensures { λ r. ⌜ r ≡ newPort home view ⌝ }
 {
-    let home = Rect {
-        left: 0,
-        top: 0,
-        right: 0,
-        bottom: 0,
-    };
-    let view = zero_view();
     Port {
         home,
         view,
         hassaved: false,
-        saved: view,
+        saved: zero_view(),
         waiting: 0,
         gathered: [0; 4],
         count: 0,
     }
 }
 
+// Every field 0 or false.
+pub fn zero_port() -> Port
+    ensures { λ r. ⌜ r ≡ zeroPort ⌝ }
+{
+    let view = zero_view();
+    new_port(view.viewport, view)
+}
+
 // The default state, with nothing saved and nothing waiting.
 pub fn fresh_port(home: Rect) -> Port
     ensures { λ r. ⌜ r ≡ freshPort home ⌝ }
 {
-    let mut port = zero_port();
-    port.home = home;
-    port.view = default_view(home);
-    port
+    new_port(home, default_view(home))
 }

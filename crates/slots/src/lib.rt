@@ -5,7 +5,7 @@ pub mod valid;
 use port::Port;
 ghost use mathlib.Core.Path.{_≡_};
 ghost use Prim.Native.Nat.{_<_};
-ghost use Rattle.slots.specs.State.{newSlot, withSlot, withPort};
+ghost use Rattle.slots.specs.State.{newSlot, slotAt, withSlot, withPort};
 
 // A slot is the paper's seat, and client its bench number. Client 0: the slot is free, and every field is 0 or false.
 pub struct Slot {
@@ -21,6 +21,15 @@ pub fn new_slot(client: u8, port: Port) -> Slot
     ensures { λ r. ⌜ r ≡ newSlot client port ⌝ }
 {
     Slot { client, port }
+}
+
+// The port of a slot.
+pub fn port_at(m: Multiplexer, i: usize) -> Port
+    requires { ⌜ i < 4 ⌝ }
+    ensures { λ r. ⌜ r ≡ slotAt m i .port ⌝ }
+{
+    let slot = m.slots[i];
+    slot.port
 }
 
 // Another slot in a place.

@@ -1,8 +1,6 @@
 -- `executor::print_byte` meets its contract: the cell is stored, and then comes what the cursor's move draws. Assumes nothing.
 use mathlib.Core.Path.{ap, _∙_}
 use lib.ListN.{length}
-use Rattle.screen.specs.declared.Motion.the-variants.{Clear}
-use Rattle.screen.specs.Cells.{cellAt}
 use Rattle.screen.proofs.Local.{length-edited}
 use Rattle.executor.proofs.Draws.{drawn-edit, draws-nothing, draws-one}
 use Rattle.executor.proofs.Printing.{cell-on-screen, move-on-screen, printed}
@@ -30,7 +28,7 @@ apply-requires c κs =
     let start = c .before .before .before .before .before .before .before .before .before .before .before in
     let moved = c .before .before .before .before .before .advance in (
       drawn-edit (moved .result .change) _ (c .before .before .change .given .1) (move-on-screen (start .args .v) (start .args .byte) (start .pre .0) (moved .result) (moved .ensures)),
-      ap length (c .before .before .before .before .before .before .before .before .store-cell .ensures) ∙ length-edited (cellAt (start .args .v .column) (start .args .v .line)) Clear (start .args .byte) (start .args .screen .now),
+      ap length (c .before .before .before .before .before .before .before .before .store-cell .ensures) ∙ length-edited _ _ _ _,
     )
 
 same-length : tie.Need-same-length

@@ -1,5 +1,4 @@
 -- `multiplexer::return_block` meets its contract: refused before it starts, or the console's reply to the slot's port. Assumes nothing.
-use native.Mathlib.Omega.{arith}
 use lib.ListN.{length}
 use borrow.Author.Needs.{needs}
 use Rattle.console.specs.Calls as console
@@ -19,47 +18,39 @@ answer-with-requires c κs = search needs
 enum-known-located-2 : tie.Need-enum-known-located-2
 enum-known-located-2 c = search needs
 
-mul-slot : tie.Need-mul-slot
-mul-slot c =
+port-at-requires : tie.Need-port-at-requires
+port-at-requires c κs =
     let args = c .before .before .before .before .before .before .args in
     let located = c .before .before .before .locate-on in
     let way = c .before .located2 .given in
-    let below = found-on (args .t1) (length (args .screen .now)) (args .client) (way .0 .0) (located .result) (located .ensures) (way .1) .1 .below in
-    omega arith
-
-element-copy-out-slot : tie.Need-element-copy-out-slot
-element-copy-out-slot c =
-    let args = c .before .before .before .before .before .before .args in
-    let located = c .before .before .before .locate-on in
-    let way = c .before .located2 .given in
-    found-on (args .t1) (length (args .screen .now)) (args .client) (way .0 .0) (located .result) (located .ensures) (way .1) .1 .below
+    found-on (args .m) (length (args .screen .now)) (args .client) (way .0 .0) (located .result) (located .ensures) (way .1) .1 .below
 
 return-block-requires : tie.Need-return-block-requires
 return-block-requires c κs = search needs
 
 relay-requires : tie.Need-relay-requires
 relay-requires c κs =
-    let args = c .before .before .before .before .before .before .before .before .before .before .before .before .args in
-    let located = c .before .before .before .before .before .before .before .before .before .locate-on in
-    let way = c .before .before .before .before .before .before .before .located2 .given in
-    found-on (args .t1) (length (args .screen .now)) (args .client) (way .0 .0) (located .result) (located .ensures) (way .1) .1 .below
+    let args = c .before .before .before .before .before .before .before .before .before .before .before .args in
+    let located = c .before .before .before .before .before .before .before .before .locate-on in
+    let way = c .before .before .before .before .before .before .located2 .given in
+    found-on (args .m) (length (args .screen .now)) (args .client) (way .0 .0) (located .result) (located .ensures) (way .1) .1 .below
 
 returns : tie.Need-returns
 returns c =
     let args = c .before .before .before .before .before .before .before .args in
     let located = c .before .before .before .before .locate-on in
     let way = c .before .before .located .given in
-    client-refused console.blockReturned (args .t1) (args .screen .now) (args .client) _ (located .result) (located .ensures) (way .0 .0) _ (way .1) (c .answer-with .ensures)
+    client-refused console.blockReturned (args .m) (args .screen .now) (args .client) _ (located .result) (located .ensures) (way .0 .0) _ (way .1) (c .answer-with .ensures)
 
 same-length : tie.Need-same-length
 same-length c = search needs
 
 returns-2 : tie.Need-returns-2
 returns-2 c =
-    let args = c .before .before .before .before .before .before .before .before .before .before .before .before .before .args in
-    let located = c .before .before .before .before .before .before .before .before .before .before .locate-on in
-    let way = c .before .before .before .before .before .before .before .before .located2 .given in
-    client-served console.blockReturned (args .t1) (args .screen .now) (args .client) _ (located .result) (located .ensures) (way .0 .0) _ _ _ _ (way .1) (c .before .before .before .return-block .ensures) (c .relay .ensures)
+    let args = c .before .before .before .before .before .before .before .before .before .before .before .before .args in
+    let located = c .before .before .before .before .before .before .before .before .before .locate-on in
+    let way = c .before .before .before .before .before .before .before .located2 .given in
+    client-served console.blockReturned (args .m) (args .screen .now) (args .client) _ (located .result) (located .ensures) (way .0 .0) _ _ _ _ _ (way .1) (c .before .before .before .before .before .port-at .ensures) (c .before .before .before .return-block .ensures) (c .relay .ensures)
 
 pub return-block-spec : {M : Type 1} → statement M
 return-block-spec =
@@ -69,8 +60,7 @@ return-block-spec =
     enum-known-located
     answer-with-requires
     enum-known-located-2
-    mul-slot
-    element-copy-out-slot
+    port-at-requires
     return-block-requires
     relay-requires
     returns

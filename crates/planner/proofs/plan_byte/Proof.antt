@@ -14,12 +14,16 @@ parameter-requires c κs = search needs
 returns : tie.Need-returns
 returns c = search is-parameter
 
-obey-requires : tie.Need-obey-requires
-obey-requires c κs = let counted = c .before .parameters .ensures in let none = c .if1 .left in c .before .before .pre .2 (omega arith)
+control-requires : tie.Need-control-requires
+control-requires c κs = let counted = c .before .parameters .ensures in let none = c .if1 .left in c .before .before .pre .2 (omega arith)
 
 returns-2 : tie.Need-returns-2
-returns-2 c = search is-code
+returns-2 c =
+    let counted = c .before .before .parameters .ensures in
+    let none = c .before .if1 .left in
+    let small = c .before .before .before .pre .2 (omega arith) in
+    search is-code
 
 pub plan-byte-spec : {M : Type 1} → statement M
 plan-byte-spec =
-    tie.close (tie.spec parameters-requires parameter-requires returns obey-requires returns-2)
+    tie.close (tie.spec parameters-requires parameter-requires returns control-requires returns-2)

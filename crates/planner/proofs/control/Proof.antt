@@ -1,9 +1,9 @@
--- `planner::obey` meets its contract: an arm for each code, where the definition computes; in the last one the code is $1F, since it is none of those below. Assumes nothing.
+-- `planner::control` meets its contract: an arm for each code, where the definition computes; in the last one the code is $1F, since it is none of those below. Assumes nothing.
 use borrow.Author.Needs.{needs}
-use Rattle.port.specs.Step.{obey}
+use Rattle.port.specs.Step.{control}
 use Rattle.planner.proofs.Carried.{arms, at-code, last-code}
-use Rattle.planner.proofs.obey.Statement.{statement}
-use Rattle.planner.proofs.obey.Tie as tie
+use Rattle.planner.proofs.control.Statement.{statement}
+use Rattle.planner.proofs.control.Tie as tie
 
 only-requires : tie.Need-only-requires
 only-requires c κs = search needs
@@ -204,137 +204,137 @@ moved-requires-16 : tie.Need-moved-requires-16
 moved-requires-16 c κs = search needs
 
 returns : tie.Need-returns
-unfolding obey
+unfolding control
 returns c = search arms
 
 returns-2 : tie.Need-returns-2
-unfolding obey
+unfolding control
 returns-2 c = search arms
 
 returns-3 : tie.Need-returns-3
-unfolding obey
+unfolding control
 returns-3 c = search arms
 
 returns-4 : tie.Need-returns-4
-unfolding obey
+unfolding control
 returns-4 c = search arms
 
 returns-5 : tie.Need-returns-5
-unfolding obey
+unfolding control
 returns-5 c = search arms
 
 returns-6 : tie.Need-returns-6
-unfolding obey
+unfolding control
 returns-6 c = search arms
 
 returns-7 : tie.Need-returns-7
-unfolding obey
+unfolding control
 returns-7 c = search arms
 
 returns-8 : tie.Need-returns-8
-unfolding obey
+unfolding control
 returns-8 c = search arms
 
 returns-9 : tie.Need-returns-9
-unfolding obey
+unfolding control
 returns-9 c = search arms
 
 returns-10 : tie.Need-returns-10
-unfolding obey
+unfolding control
 returns-10 c = search arms
 
 returns-11 : tie.Need-returns-11
-unfolding obey
+unfolding control
 returns-11 c = search arms
 
 returns-12 : tie.Need-returns-12
-unfolding obey
+unfolding control
 returns-12 c = search arms
 
 returns-13 : tie.Need-returns-13
-unfolding obey
+unfolding control
 returns-13 c = search arms
 
 returns-14 : tie.Need-returns-14
-unfolding obey
+unfolding control
 returns-14 c = search arms
 
 returns-15 : tie.Need-returns-15
-unfolding obey
+unfolding control
 returns-15 c = search arms
 
 returns-16 : tie.Need-returns-16
-unfolding obey
+unfolding control
 returns-16 c = search arms
 
 returns-17 : tie.Need-returns-17
-unfolding obey
+unfolding control
 returns-17 c = search arms
 
 returns-18 : tie.Need-returns-18
-unfolding obey
+unfolding control
 returns-18 c = search arms
 
 returns-19 : tie.Need-returns-19
-unfolding obey
+unfolding control
 returns-19 c = search arms
 
 returns-20 : tie.Need-returns-20
-unfolding obey
+unfolding control
 returns-20 c = search arms
 
 returns-21 : tie.Need-returns-21
-unfolding obey
+unfolding control
 returns-21 c = search arms
 
 returns-22 : tie.Need-returns-22
-unfolding obey
+unfolding control
 returns-22 c = search arms
 
 returns-23 : tie.Need-returns-23
-unfolding obey
+unfolding control
 returns-23 c = search arms
 
 returns-24 : tie.Need-returns-24
-unfolding obey
+unfolding control
 returns-24 c = search arms
 
 returns-25 : tie.Need-returns-25
-unfolding obey
+unfolding control
 returns-25 c = search arms
 
 returns-26 : tie.Need-returns-26
-unfolding obey
+unfolding control
 returns-26 c = search arms
 
 returns-27 : tie.Need-returns-27
-unfolding obey
+unfolding control
 returns-27 c = search arms
 
 returns-28 : tie.Need-returns-28
-unfolding obey
+unfolding control
 returns-28 c = search arms
 
 returns-29 : tie.Need-returns-29
-unfolding obey
+unfolding control
 returns-29 c = search arms
 
 returns-30 : tie.Need-returns-30
-unfolding obey
+unfolding control
 returns-30 c = search arms
 
 returns-31 : tie.Need-returns-31
-unfolding obey
+unfolding control
 returns-31 c = search arms
 
 returns-32 : tie.Need-returns-32
-unfolding obey
+unfolding control
 returns-32 c =
     let start = c .before .before .before .before in
     at-code _ (start .args .p) (start .args .code) 31 (last-code (start .args .code) (c .before .before .match .rest) (start .pre)) (search arms)
 
-pub obey-spec : {M : Type 1} → statement M
-obey-spec =
+pub control-spec : {M : Type 1} → statement M
+control-spec =
     tie.close
     (tie.spec
     only-requires

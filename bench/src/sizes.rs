@@ -3,15 +3,15 @@
 use crate::feed::Feed;
 use crate::frames::Object;
 use crate::layout::Types;
-use crate::library::{Call, LIBRARY};
+use crate::library::{Calls, LIBRARY};
 use crate::numbers::Numbers;
 use crate::port::{BLANK, SCREEN_SIZE};
 use crate::stack::used;
 use crate::table::{texts, with_commas, Table};
 use crate::workloads::{all, PAGE};
 
-/// A call that does nothing, to see what the stack holds without the library.
-const NOTHING: Call = Call(no_stream);
+/// Calls that do nothing, to see what the stack holds without the library.
+const NOTHING: Calls = Calls { run_stream: no_stream, put_bytes: no_bytes };
 
 /// The place to return to, which a call that does nothing has as well.
 const RETURN_PLACE: usize = 8;
@@ -54,9 +54,12 @@ fn print_state(types: &Types, object: &Object) -> Result<(), String> {
 
 fn print_stack(object: &Object) {
     let mut table = Table::new(&texts(&["", "reserved", "touched"]));
-    let feeds = [PAGE, Feed::Writes(7), Feed::Writes(1), Feed::Bytes];
-    let touched = with_commas(deepest(&feeds) as u64);
-    let rows = [("console::write", "-".to_string()), ("combthrift_run_stream", touched)];
+    let touched = |feeds: &[Feed]| with_commas(deepest(feeds) as u64);
+    let rows = [
+        ("console::write", "-".to_string()),
+        ("combthrift_run_stream", touched(&[PAGE, Feed::Writes(7), Feed::Writes(1)])),
+        ("combthrift_put_bytes", touched(&[Feed::Bytes])),
+    ];
     for (name, touched) in rows {
         if object.has(name) {
             let (reserved, _) = object.deepest(name);
@@ -79,10 +82,10 @@ fn deepest(feeds: &[Feed]) -> usize {
 }
 
 fn touched(stream: &[u8], feed: Feed) -> usize {
-    let depth = |call: Call| {
+    let depth = |calls: Calls| {
         let mut screen = [BLANK; SCREEN_SIZE];
         used(&mut || {
-            call.run(stream, feed, &mut screen);
+            calls.run(stream, feed, &mut screen);
         })
     };
     depth(LIBRARY) - depth(NOTHING) + RETURN_PLACE
@@ -91,6 +94,17 @@ fn touched(stream: &[u8], feed: Feed) -> usize {
 unsafe extern "C" fn no_stream(
     _: *const u8,
     _: usize,
+    _: usize,
+    _: *mut u8,
+    _: usize,
+    _: *mut u8,
+    _: usize,
+) -> usize {
+    0
+}
+
+unsafe extern "C" fn no_bytes(
+    _: *const u8,
     _: usize,
     _: *mut u8,
     _: usize,

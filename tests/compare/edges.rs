@@ -2,7 +2,7 @@
 //! longer than needed, and screens of another length.
 
 use crate::console::write;
-use crate::library::run_stream;
+use crate::library::{run_stream, Feed};
 use crate::port::{Port, BLANK, SCREEN_SIZE};
 use crate::subjects::FEEDS;
 
@@ -19,15 +19,27 @@ pub fn short_answers() -> Vec<String> {
     let mut faults = Vec::new();
     for feed in FEEDS {
         for lent in 0..7 {
-            let mut screen = [BLANK; SCREEN_SIZE];
-            let mut answer = vec![LENT; lent];
-            let length = run_stream(&STREAM, feed, &mut screen, &mut answer);
-            if length != 0 || screen != [BLANK; SCREEN_SIZE] || answer != vec![LENT; lent] {
+            if !is_refused(feed, lent) {
                 faults.push(format!("{:?}: an answer of {} bytes is not refused", feed, lent));
             }
         }
     }
     faults
+}
+
+pub fn writes_of_no_size() -> Vec<String> {
+    match is_refused(Feed::Writes(0), 7) {
+        true => Vec::new(),
+        false => vec!["writes of 0 bytes are not refused".to_string()],
+    }
+}
+
+/// Gives 0, and leaves the screen and the lent answer as they were.
+fn is_refused(feed: Feed, lent: usize) -> bool {
+    let mut screen = [BLANK; SCREEN_SIZE];
+    let mut answer = vec![LENT; lent];
+    let length = run_stream(&STREAM, feed, &mut screen, &mut answer);
+    length == 0 && screen == [BLANK; SCREEN_SIZE] && answer == vec![LENT; lent]
 }
 
 pub fn longer_answer() -> Vec<String> {

@@ -1,7 +1,8 @@
-//! The boundary library, linked in. Its functions are proved, but what it
-//! assumes of its caller lies outside any proof: each pointer is valid
-//! for the length beside it, and no slice that may be written overlaps
-//! another one. Rust's borrow rules give both to the functions here.
+//! The libraries `boundary` and `bytewise`, linked in. Their functions are
+//! proved, but what they assume of a caller lies outside any proof: each
+//! pointer is valid for the length beside it, and no slice that may be
+//! written overlaps another one. Rust's borrow rules give both to the
+//! functions here.
 
 extern "C" {
     fn combthrift_run_script(
@@ -22,25 +23,24 @@ extern "C" {
         answer: *mut u8,
         answer_length: usize,
     ) -> usize;
+
+    fn combthrift_put_bytes(
+        bytes: *const u8,
+        bytes_length: usize,
+        screen: *mut u8,
+        screen_length: usize,
+        answer: *mut u8,
+        answer_length: usize,
+    ) -> usize;
 }
 
 /// How a stream is handed over.
 #[derive(Clone, Copy, Debug, PartialEq, Eq)]
 pub enum Feed {
-    /// In writes of at most so many bytes, 1 or more.
+    /// In writes of at most so many bytes; 0 is refused.
     Writes(usize),
     /// By the one-byte call, on a port that is changed where it lies.
     Bytes,
-}
-
-impl Feed {
-    /// The size that the library takes: 0 stands for the one-byte call.
-    fn size(self) -> usize {
-        match self {
-            Feed::Writes(size) => size,
-            Feed::Bytes => 0,
-        }
-    }
 }
 
 /// Runs a script on a fresh wall and the lent screen. The answers go to
@@ -61,17 +61,29 @@ pub fn run_script(script: &[u8], screen: &mut [u8], answers: &mut [u8]) -> usize
 /// Hands a stream to a fresh plain console and the lent screen. The
 /// answer is seven bytes: the last status, all bells as four bytes, low
 /// byte first, the cursor's column and line. Gives 7; or 0, with nothing
-/// done, if fewer bytes are lent for it.
+/// done, if fewer bytes are lent for it or writes have no size.
 pub fn run_stream(bytes: &[u8], feed: Feed, screen: &mut [u8], answer: &mut [u8]) -> usize {
-    unsafe {
-        combthrift_run_stream(
-            bytes.as_ptr(),
-            bytes.len(),
-            feed.size(),
-            screen.as_mut_ptr(),
-            screen.len(),
-            answer.as_mut_ptr(),
-            answer.len(),
-        )
+    match feed {
+        Feed::Writes(size) => unsafe {
+            combthrift_run_stream(
+                bytes.as_ptr(),
+                bytes.len(),
+                size,
+                screen.as_mut_ptr(),
+                screen.len(),
+                answer.as_mut_ptr(),
+                answer.len(),
+            )
+        },
+        Feed::Bytes => unsafe {
+            combthrift_put_bytes(
+                bytes.as_ptr(),
+                bytes.len(),
+                screen.as_mut_ptr(),
+                screen.len(),
+                answer.as_mut_ptr(),
+                answer.len(),
+            )
+        },
     }
 }

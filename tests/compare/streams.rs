@@ -43,6 +43,7 @@ pub fn streams(folder: &Path, console: &OsStr) -> bool {
         count(case.name, &limits::faults(&case, &subjects));
     }
     count("library-short-answers", &edges::short_answers());
+    count("library-writes-of-no-size", &edges::writes_of_no_size());
     count("library-longer-answer", &edges::longer_answer());
     count("library-other-screens", &edges::other_screens());
     println!("streams: {} passed, {} failed", passed, failed);

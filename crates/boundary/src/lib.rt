@@ -1,12 +1,10 @@
-// Runs from Rust, for tests and benchmarks: a script of calls by client, or a plain stream in pieces or by the one-byte call. Scripts, streams and answers are bytes.
+// Runs from Rust, for tests and benchmarks: a script of calls by client, or a plain stream in pieces. Scripts, streams and answers are bytes.
 // No state crosses this boundary. What it assumes of its caller is outside the proofs: each pointer is good for its length, and lent slices do not overlap.
 mod answer;
 mod script;
 
 use answer::has_room;
-use answer::put_head;
 use bytes::copy;
-use console::fresh_console;
 use multiplexer::Answer;
 use multiplexer::close;
 use multiplexer::fresh_multiplexer;
@@ -18,9 +16,10 @@ use script::Call;
 use script::Next;
 use script::next_call;
 use script::pane_of;
-use session::Session;
+use session::answer::put_end;
+use session::answer::put_head;
+use session::fresh_session;
 use session::hand_over_all;
-use session::hand_over_bytes;
 use slots::Multiplexer;
 ghost use Prim.Native.Nat.{_+_, _≤_, _<_, min};
 ghost use mathlib.Core.Path.{_≡_};
@@ -141,33 +140,8 @@ pub extern "C" fn combthrift_run_script(
     }
 }
 
-// A session's end as an answer: the status, the bells as four bytes, low byte first, the cursor's column and its line.
-fn put_end(screen: &mut [u8], end: Session, answer: &mut [u8])
-    requires { ⌜ 7 ≤ length (now answer) ⌝ }
-{
-    // An empty write is judged as the others were, and changes nothing.
-    let last = console::write(end.port, screen, &answer[..0]);
-    let status = last.status;
-    let view = end.port.view;
-    put_head(answer, console::status_number(status), end.bells);
-    answer[5] = view.column;
-    answer[6] = view.line;
-}
-
-// The bytes to a fresh plain console in writes of at most size bytes, or, where size is 0, by the one-byte call.
-fn run(screen: &mut [u8], bytes: &[u8], size: usize) -> Session {
-    let fresh = Session {
-        port: fresh_console(),
-        bells: 0,
-    };
-    if size == 0 {
-        return hand_over_bytes(screen, fresh, bytes);
-    }
-    hand_over_all(screen, fresh, bytes, size)
-}
-
-// Hands a stream to a fresh plain console, as `run` does.
-// The result is the length of the answer, or 0 where there is no room for it and nothing was done.
+// Hands a stream to a fresh plain console in writes of at most size bytes.
+// The result is the length of the answer, or 0 where size is 0 or there is no room for it, and nothing was done.
 #[no_mangle]
 pub extern "C" fn combthrift_run_stream(
     bytes: &[u8],
@@ -175,10 +149,12 @@ pub extern "C" fn combthrift_run_stream(
     screen: &mut [u8],
     answer: &mut [u8],
 ) -> usize {
+    if size == 0 {
+        return 0;
+    }
     if answer.len() < 7 {
         return 0;
     }
-    let end = run(screen, bytes, size);
-    put_end(screen, end, answer);
+    put_end(answer, hand_over_all(screen, fresh_session(), bytes, size));
     7
 }

@@ -1,9 +1,9 @@
 // Paper 01's program: standard input through a plain console, and the screen printed in hex.
 // What is read and printed is no part of any contract; the work is `console`'s.
-use console::fresh_console;
 use libc::STDIN_FILENO;
 use libc::STDOUT_FILENO;
 use session::Session;
+use session::fresh_session;
 use session::hand_over;
 ghost use Prim.Native.Nat.{_<_};
 
@@ -67,11 +67,7 @@ fn read_all(screen: &mut [u8], at: Session) -> Session {
 
 fn main() {
     let mut screen = [0xA0u8; 1920];
-    let start = Session {
-        port: fresh_console(),
-        bells: 0,
-    };
-    let end = read_all(&mut screen, start);
+    let end = read_all(&mut screen, fresh_session());
     print_screen(&screen);
     print_cursor(end);
 }

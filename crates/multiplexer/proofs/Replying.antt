@@ -89,6 +89,9 @@ found-on m size n i j is e = go (eqb size 1920) refl (sym is ∙ e)
     go true k h = (eqb-true size 1920 k, found m n i (locatedSlot m n) refl h)
     go false k h = absurd (let z : _≡_ {A = ℕ} 0 1 = cc in omega arith)
 
+pub place-below : (m : Multiplexer) (size n i : ℕ) (j : Located) → j ≡ locatedOn m size n → j ≡ At i → i < 4
+place-below m size n i j is e = found-on m size n i j is e .1 .below
+
 -- an answer by its parts
 by-answer : (reply : Reply) (r : Answer) (status : Status) (q : Multiplexer) (n : ℕ) (t b : List ℕ) → r ≡ answerWith status q n → status ≡ reply .status → q ≡ reply .multiplexer → n ≡ reply .count
     → t ≡ reply .screen

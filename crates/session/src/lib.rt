@@ -1,23 +1,38 @@
-// A plain console kept for a session: its port, and the bells so far. A stream may come in pieces of any size.
+// A plain console kept for a session. A stream may come in pieces of any size, or byte after byte.
+pub mod answer;
+
 use console::Answer;
+use console::Status;
+use console::fresh_console;
 use console::put_byte_by_value;
 use console::write;
 use port::Port;
 ghost use Prim.Native.Nat.{_<_, min};
 ghost use mathlib.Core.Path.{_≡_};
 
-// There are at most as many bells as bytes, so that the sum never wraps.
+// The status is that of the last call, and Done before the first. There are at most as many bells as bytes, so that the sum never wraps.
 pub struct Session {
     pub port: Port,
     pub bells: u64,
+    pub status: Status,
+}
+
+pub fn fresh_session() -> Session {
+    Session {
+        port: fresh_console(),
+        bells: 0,
+        status: Status::Done,
+    }
 }
 
 // The session after a call.
 fn after(at: Session, answer: Answer) -> Session {
     let port = answer.port;
+    let status = answer.status;
     Session {
         port,
         bells: std::num::wrapping_add_u64(at.bells, answer.count as u64),
+        status,
     }
 }
 

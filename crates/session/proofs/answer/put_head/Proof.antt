@@ -1,9 +1,9 @@
--- `boundary::answer::put_head` meets its contract: stores leave the length as it is. Assumes nothing.
+-- `session::answer::put_head` meets its contract: stores leave the length as it is. Assumes nothing.
 use native.Mathlib.Omega.{arith}
 use lib.ListN.{length-set}
 use borrow.Author.Needs.{needs}
-use Rattle.boundary.proofs.answer.put_head.Statement.{statement}
-use Rattle.boundary.proofs.answer.put_head.Tie as tie
+use Rattle.session.proofs.answer.put_head.Statement.{statement}
+use Rattle.session.proofs.answer.put_head.Tie as tie
 
 slice-write-answer : tie.Need-slice-write-answer
 slice-write-answer c = search needs

@@ -1,0 +1,27 @@
+// Answers as bytes, for callers in other languages.
+use super::Session;
+use console::status_number;
+ghost use Prim.Native.Nat.{_≤_};
+ghost use lib.ListN.{length};
+
+// The status, and the count as four bytes, low byte first.
+pub fn put_head(answer: &mut [u8], status: u8, count: u64)
+    requires { ⌜ 5 ≤ length (now answer) ⌝ }
+{
+    answer[0] = status;
+    answer[1] = (count % 256) as u8;
+    answer[2] = (count / 256 % 256) as u8;
+    answer[3] = (count / 65536 % 256) as u8;
+    answer[4] = (count / 16777216 % 256) as u8;
+}
+
+// A session's end: the last status and the bells, then the cursor's column and its line.
+pub fn put_end(answer: &mut [u8], end: Session)
+    requires { ⌜ 7 ≤ length (now answer) ⌝ }
+{
+    let status = end.status;
+    let view = end.port.view;
+    put_head(answer, status_number(status), end.bells);
+    answer[5] = view.column;
+    answer[6] = view.line;
+}

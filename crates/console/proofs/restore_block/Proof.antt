@@ -5,7 +5,6 @@ use borrow.Author.Needs.{needs}
 use Rattle.block.proofs.Restores.{length-restored}
 use Rattle.console.proofs.Replying.{fit, fit-length, replies-refused, replies-restored, replies-mismatch}
 use Rattle.executor.proofs.Carrying.{viewport-on-screen}
-use Rattle.console.specs.Calls.{blockRestored}
 use Rattle.console.proofs.restore_block.Statement.{statement}
 use Rattle.console.proofs.restore_block.Tie as tie
 
@@ -40,16 +39,16 @@ same-length c =
     ap length (c .before .before .before .copy-in .ensures) ∙ length-restored _ _ _ ∙ sym (fits .size)
 
 returns : tie.Need-returns
-returns c = replies-restored (c .before .before .before .before .before .before .before .before .before .before .before .before .before .args .p) _ (c .before .before .before .before .before .before .before .before .before .before .judge .result) (c .before .before .before .before .before .before .before .before .before .before .judge .ensures) _ _ _ _ (search needs) (c .before .before .before .before .before .before .block-fits .ensures) (c .before .before .before .before .before .if1 .taken) (c .before .before .before .copy-in .ensures) (c .done .ensures)
+returns c = search replies-restored
 
 refused-requires-2 : tie.Need-refused-requires-2
 refused-requires-2 c κs = search needs
 
 returns-2 : tie.Need-returns-2
-returns-2 c = replies-refused (c .before .before .before .before .before .before .before .args .p) _ (c .before .before .before .before .judge .result) (c .before .before .before .before .judge .ensures) blockRestored _ _ _ (search needs) (c .refused .ensures)
+returns-2 c = search replies-refused
 
 returns-3 : tie.Need-returns-3
-returns-3 c = replies-mismatch (c .before .before .before .before .before .before .before .before .before .args .p) _ (c .before .before .before .before .before .before .judge .result) (c .before .before .before .before .before .before .judge .ensures) _ _ _ (search needs) (c .before .before .block-fits .ensures) (c .before .if1 .left) (c .refused2 .ensures)
+returns-3 c = search replies-mismatch
 
 pub restore-block-spec : {M : Type 1} → statement M
 restore-block-spec =

@@ -3,7 +3,6 @@ use native.Mathlib.Omega.{arith}
 use borrow.Author.Needs.{needs}
 use Rattle.console.proofs.Replying.{fit, block-size, replies-refused, replies-returned, replies-short}
 use Rattle.executor.proofs.Carrying.{viewport-on-screen}
-use Rattle.console.specs.Calls.{blockReturned}
 use Rattle.console.proofs.return_block.Statement.{statement}
 use Rattle.console.proofs.return_block.Tie as tie
 
@@ -28,7 +27,7 @@ refused-requires-2 : tie.Need-refused-requires-2
 refused-requires-2 c κs = search needs
 
 returns : tie.Need-returns
-returns c = replies-short (c .before .before .before .before .before .before .before .before .before .args .p) _ (c .before .before .before .before .before .before .judge .result) (c .before .before .before .before .before .before .judge .ensures) _ _ _ (search needs) (c .before .before .block-length .ensures) (c .before .if1 .taken) (c .refused2 .ensures)
+returns c = search replies-short
 
 copy-out-requires : tie.Need-copy-out-requires
 copy-out-requires c κs =
@@ -41,15 +40,13 @@ done-requires : tie.Need-done-requires
 done-requires c κs = search needs
 
 returns-2 : tie.Need-returns-2
-returns-2 c = replies-refused (c .before .before .before .before .before .before .before .args .p) _ (c .before .before .before .before .judge .result) (c .before .before .before .before .judge .ensures) blockReturned _ _ _ (search needs) (c .refused .ensures)
+returns-2 c = search replies-refused
 
 same-length : tie.Need-same-length
-same-length c =
-    let fits = fit (c .before .before .before .before .before .before .before .before .before .before .before .before .before .args .p) (c .before .before .before .before .before .before .before .before .before .before .before .before .before .args .screen .now) (c .before .before .before .before .before .before .before .before .before .before .judge .result) (c .before .before .before .before .before .before .before .before .before .before .judge .ensures) (search needs) in
-    block-size (c .before .before .before .before .before .before .before .before .before .before .before .before .before .args .p .view .viewport) _ _ _ (viewport-on-screen _ (fits .port)) (fits .size) (c .before .before .before .before .before .before .block-length .ensures) (c .before .before .before .before .before .if1 .left) (c .before .before .before .copy-out .ensures)
+same-length c = search block-size
 
 returns-3 : tie.Need-returns-3
-returns-3 c = replies-returned (c .before .before .before .before .before .before .before .before .before .before .before .before .before .args .p) _ (c .before .before .before .before .before .before .before .before .before .before .judge .result) (c .before .before .before .before .before .before .before .before .before .before .judge .ensures) _ _ _ _ (search needs) (c .before .before .before .before .before .before .block-length .ensures) (c .before .before .before .before .before .if1 .left) (c .before .before .before .copy-out .ensures) (c .done .ensures)
+returns-3 c = search replies-returned
 
 pub return-block-spec : {M : Type 1} → statement M
 return-block-spec =

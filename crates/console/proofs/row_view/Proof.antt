@@ -1,5 +1,4 @@
 -- `console::row_view` meets its contract: an empty part where the call is refused or the row is past the last, and else the row's own part, which ends on the screen. Assumes nothing.
-use mathlib.Core.Path.{refl}
 use native.Mathlib.Omega.{arith}
 use borrow.Author.Needs.{needs}
 use Rattle.executor.proofs.Carrying.{viewport-on-screen}
@@ -56,10 +55,10 @@ part-result-start-2 : tie.Need-part-result-start-2
 part-result-start-2 c = search needs
 
 part-result-end-2 : tie.Need-part-result-end-2
-part-result-end-2 c = row-end (c .before .before .before .before .before .before .before .before .before .args .p) (c .before .before .before .before .before .before .before .before .before .args .screen .now) (c .before .before .before .before .before .before .before .judge .result) (c .before .before .before .before .before .before .before .judge .ensures) _ _ _ _ (search needs) (c .before .before .before .height .ensures) (c .before .before .if1 .taken) (c .before .row-start .ensures) (c .width .ensures)
+part-result-end-2 c = search row-end
 
 returns : tie.Need-returns
-returns c = row-good (c .before .before .before .before .before .before .before .before .before .before .args .p) (c .before .before .before .before .before .before .before .before .before .before .args .screen .now) (c .before .before .before .before .before .before .before .before .judge .result) (c .before .before .before .before .before .before .before .before .judge .ensures) _ _ _ _ _ (search needs) (c .before .before .before .before .height .ensures) (c .before .before .before .if1 .taken) (c .before .before .row-start .ensures) (c .before .width .ensures) refl
+returns c = search row-good
 
 sub-result-3 : tie.Need-sub-result-3
 sub-result-3 c = search needs
@@ -71,12 +70,10 @@ part-result-end-3 : tie.Need-part-result-end-3
 part-result-end-3 c = search needs
 
 returns-2 : tie.Need-returns-2
-returns-2 c =
-    let told = c .before .enum-told .given in
-    row-refused (c .before .before .before .before .before .args .p) (c .before .before .before .before .before .args .screen .now) (c .before .before .before .judge .result) (c .before .before .before .judge .ensures) _ _ (told .0 .0) (told .1) refl
+returns-2 c = search row-refused
 
 returns-3 : tie.Need-returns-3
-returns-3 c = row-past (c .before .before .before .before .before .before .before .before .args .p) (c .before .before .before .before .before .before .before .before .args .screen .now) (c .before .before .before .before .before .before .judge .result) (c .before .before .before .before .before .before .judge .ensures) _ _ _ (search needs) (c .before .before .height .ensures) (c .before .if1 .left) refl
+returns-3 c = search row-past
 
 pub row-view-spec : {M : Type 1} → statement M
 row-view-spec =

@@ -2,7 +2,6 @@
 use borrow.Author.Needs.{needs}
 use Rattle.console.proofs.Replying.{fit, replies-refused, replies-written}
 use Rattle.executor.proofs.Carrying.{same-size}
-use Rattle.console.specs.Calls.{written}
 use Rattle.console.proofs.write.Statement.{statement}
 use Rattle.console.proofs.write.Tie as tie
 
@@ -27,15 +26,13 @@ done-requires : tie.Need-done-requires
 done-requires c κs = search needs
 
 returns : tie.Need-returns
-returns c = replies-refused (c .before .before .before .before .before .before .before .args .p) _ (c .before .before .before .before .judge .result) (c .before .before .before .before .judge .ensures) written _ _ _ (search needs) (c .refused .ensures)
+returns c = search replies-refused
 
 same-length : tie.Need-same-length
-same-length c =
-    let fits = fit (c .before .before .before .before .before .before .before .before .before .before .args .p) (c .before .before .before .before .before .before .before .before .before .before .args .screen .now) (c .before .before .before .before .before .before .before .judge .result) (c .before .before .before .before .before .before .before .judge .ensures) (search needs) in
-    same-size (c .before .before .before .carry-stream .ensures) (fits .size)
+same-length c = search same-size
 
 returns-2 : tie.Need-returns-2
-returns-2 c = replies-written (c .before .before .before .before .before .before .before .before .before .before .args .p) _ (c .before .before .before .before .before .before .before .judge .result) (c .before .before .before .before .before .before .before .judge .ensures) _ _ _ _ _ (search needs) (c .before .before .before .carry-stream .ensures) (c .done .ensures)
+returns-2 c = search replies-written
 
 pub write-spec : {M : Type 1} → statement M
 write-spec =

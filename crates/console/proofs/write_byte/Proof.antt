@@ -1,7 +1,6 @@
 -- `console::write_byte` meets its contract: refused before it starts, or what `carry_single` leaves is what the definition draws. Assumes nothing.
 use borrow.Author.Needs.{needs}
 use Rattle.executor.proofs.Carrying.{same-size}
-use Rattle.console.specs.Calls.{written}
 use Rattle.console.proofs.Replying.{fit, replies-refused, replies-written}
 use Rattle.console.proofs.write_byte.Statement.{statement}
 use Rattle.console.proofs.write_byte.Tie as tie
@@ -29,23 +28,13 @@ done-requires : tie.Need-done-requires
 done-requires c κs = search needs
 
 returns : tie.Need-returns
-returns c =
-    let args = c .before .before .before .before .before .before .args in
-    let judged = c .before .before .before .before .judge in
-    replies-refused (args .p) _ (judged .result) (judged .ensures) written _ _ _ (search needs) (c .refused .ensures)
+returns c = search replies-refused
 
 same-length : tie.Need-same-length
-same-length c =
-    let args = c .before .before .before .before .before .before .before .before .before .args in
-    let judged = c .before .before .before .before .before .before .before .judge in
-    let fits = fit (args .p) (args .screen .now) (judged .result) (judged .ensures) (search needs) in
-    same-size (c .before .before .before .carry-single .ensures) (fits .size)
+same-length c = search same-size
 
 returns-2 : tie.Need-returns-2
-returns-2 c =
-    let args = c .before .before .before .before .before .before .before .before .before .args in
-    let judged = c .before .before .before .before .before .before .before .judge in
-    replies-written (args .p) _ (judged .result) (judged .ensures) _ _ _ _ _ (search needs) (c .before .before .before .carry-single .ensures) (c .done .ensures)
+returns-2 c = search replies-written
 
 pub write-byte-spec : {M : Type 1} → statement M
 write-byte-spec =

@@ -21,7 +21,7 @@ carry-code-requires c κs =
     (start .pre .0, start .pre .2, sym (c .before .before .before .before .is-printed .ensures) ∙ c .before .before .before .if1 .taken, byte)
 
 same-length : tie.Need-same-length
-same-length c = same-size (c .before .before .carry-code .ensures) (c .before .before .before .before .before .before .before .before .before .pre .2)
+same-length c = search same-size
 
 returns : tie.Need-returns
 returns c = c .before .before .carry-code .ensures
@@ -33,17 +33,13 @@ plan-byte-requires c κs =
     (viewport-on-screen p (start .pre .0), few-gathered p (start .pre .0), not-printed p (start .args .b) (start .pre .0) (sym (c .before .before .is-printed .ensures) ∙ c .before .if1 .left))
 
 carry-out-requires : tie.Need-carry-out-requires
-carry-out-requires c κs =
-    let start = c .before .before .before .before .before in
-    (plan-on-screen (start .args .p) (start .args .b) (c .plan-byte .result) (c .plan-byte .ensures) (start .pre .0), start .pre .1, start .pre .2)
+carry-out-requires c κs = search plan-on-screen
 
 same-length-2 : tie.Need-same-length-2
-same-length-2 c = same-size (c .before .before .carry-out .ensures) (c .before .before .before .before .before .before .before .before .pre .2)
+same-length-2 c = search same-size
 
 returns-2 : tie.Need-returns-2
-returns-2 c =
-    let start = c .before .before .before .before .before .before .before .before in
-    byte-carried (start .args .p) (start .args .b) (c .before .before .before .plan-byte .result) (c .before .before .before .plan-byte .ensures) _ _ _ _ (c .before .before .carry-out .ensures)
+returns-2 c = search byte-carried
 
 pub carry-byte-spec : {M : Type 1} → statement M
 carry-byte-spec =

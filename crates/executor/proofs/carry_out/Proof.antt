@@ -9,12 +9,10 @@ use Rattle.executor.proofs.carry_out.Statement.{statement}
 use Rattle.executor.proofs.carry_out.Tie as tie
 
 draw-change-requires : tie.Need-draw-change-requires
-draw-change-requires c κs = let start = c .before .before in (plan-first (start .args .plan) (start .pre .0), start .pre .2)
+draw-change-requires c κs = search plan-first
 
 draw-change-requires-2 : tie.Need-draw-change-requires-2
-draw-change-requires-2 c κs =
-    let start = c .before .before .before .before .before .before in
-    (plan-second (start .args .plan) (start .pre .0), ap length (c .before .before .before .draw-change .ensures) ∙ length-draw (changeList (start .args .plan .first)) _ (start .pre .2))
+draw-change-requires-2 c κs = search (plan-second, needs)
 
 mode-of-requires : tie.Need-mode-of-requires
 mode-of-requires c κs = search needs

@@ -21,10 +21,10 @@ carry-code-requires c κs =
     (start .pre .0, start .pre .1, sym (c .before .before .before .before .is-printed .ensures) ∙ c .before .before .before .if1 .taken, byte)
 
 same-length : tie.Need-same-length
-same-length c = same-size (c .before .before .carry-code .ensures) (c .before .before .before .before .before .before .before .before .before .pre .1)
+same-length c = search same-size
 
 returns : tie.Need-returns
-returns c = single-carried _ _ _ _ _ _ (c .before .before .carry-code .ensures)
+returns c = search single-carried
 
 slice-aggregate-carry-stream : tie.Need-slice-aggregate-carry-stream
 slice-aggregate-carry-stream c = search needs
@@ -33,7 +33,7 @@ carry-stream-requires : tie.Need-carry-stream-requires
 carry-stream-requires c κs = search needs
 
 same-length-2 : tie.Need-same-length-2
-same-length-2 c = same-size (c .before .before .carry-stream .ensures) (c .before .before .before .before .before .before .before .before .pre .1)
+same-length-2 c = search same-size
 
 returns-2 : tie.Need-returns-2
 returns-2 c = c .before .before .carry-stream .ensures

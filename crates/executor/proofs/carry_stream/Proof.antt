@@ -1,6 +1,6 @@
 -- `executor::carry_stream` meets its contract: the loop keeps that what is left of the stream, done from here, is what was asked; bells so far are at most the bytes so far. Assumes nothing.
 use Prim.Native.Nat.{_-_}
-use mathlib.Core.Path.{_≡_, refl}
+use mathlib.Core.Path.{_≡_}
 use native.Mathlib.Omega.{arith}
 use lib.ListN.{length, getD}
 use borrow.Author.Needs.{needs}
@@ -20,7 +20,7 @@ table-copy-requires : tie.Need-table-copy-requires Inv-loop μ-loop
 table-copy-requires c κs = search needs
 
 loop-holds : tie.Need-loop-holds Inv-loop μ-loop
-loop-holds c = let start = c .before .before .before in (streaming-starts _ _ _ (start .pre .0) (start .pre .1), refl, c .table-copy .ensures)
+loop-holds c = search streaming-starts
 
 shared-slice-read-carry-byte : tie.Need-shared-slice-read-carry-byte Inv-loop μ-loop
 shared-slice-read-carry-byte c = c .before .before .before .loop-test .taken
@@ -45,13 +45,13 @@ loop-less : tie.Need-loop-less Inv-loop μ-loop
 loop-less c = let more = c .before .before .before .before .before .before .before .before .loop-test .taken in omega arith
 
 loop-again : tie.Need-loop-again Inv-loop μ-loop
-loop-again c = let at = c .before .before .before .before .before .before .before .before .before in (streaming-again (at .loop .inv .0) _ _ _ (c .before .before .before .before .before .before .before .before .loop-test .taken) (c .before .before .before .before .carry-byte .ensures), refl, at .loop .inv .2)
+loop-again c = search streaming-again
 
 returns : tie.Need-returns Inv-loop μ-loop
 returns c = streaming-ends (c .before .loop .inv .0) (c .loop-test .left)
 
 same-length : tie.Need-same-length Inv-loop μ-loop
-same-length c = let start = c .before .before .before .before .before in same-size (returns c) (start .pre .1)
+same-length c = search (same-size, needs)
 
 pub carry-stream-spec : {M : Type 1} → statement M
 carry-stream-spec =

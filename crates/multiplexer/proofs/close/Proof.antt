@@ -33,18 +33,10 @@ answer-with-requires-2 : tie.Need-answer-with-requires-2
 answer-with-requires-2 c κs = search needs
 
 returns : tie.Need-returns
-returns c =
-    let args = c .before .before .before .before .before .args in
-    let found-at = c .before .before .before .before .locate in
-    let way = c .before .before .located .given in
-    close-refused-by (args .m) (args .client) (found-at .result) (found-at .ensures) (way .0 .0) _ (way .1) (c .answer-with .ensures)
+returns c = search close-refused-by
 
 returns-2 : tie.Need-returns-2
-returns-2 c =
-    let args = c .before .before .before .before .before .before .before .before .args in
-    let found-at = c .before .before .before .before .before .before .before .locate in
-    let way = c .before .before .before .before .before .located2 .given in
-    close-done-by (args .m) (args .client) (found-at .result) (found-at .ensures) (way .0 .0) _ _ _ _ (way .1) (c .before .before .before .zero-port .ensures) (c .before .before .new-slot .ensures) (c .before .with-slot .ensures) (c .answer-with2 .ensures)
+returns-2 c = search close-done-by
 
 pub close-spec : {M : Type 1} → statement M
 close-spec =

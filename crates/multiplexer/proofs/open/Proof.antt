@@ -54,11 +54,7 @@ answer-with-requires-2 : tie.Need-answer-with-requires-2
 answer-with-requires-2 c κs = search needs
 
 returns-2 : tie.Need-returns-2
-returns-2 c =
-    let args = c .before .before .before .before .before .args in
-    let status = c .before .before .before .open-status .ensures in
-    let number = c .before .before .status-number .ensures in
-    open-refused-by (args .m) (args .screen .now) (args .client) (args .pane) _ status _ number _ (c .before .if1 .left) (c .answer-with2 .ensures)
+returns-2 c = search open-refused-by
 
 pub open-spec : {M : Type 1} → statement M
 open-spec =

@@ -23,7 +23,7 @@ first-refusal-requires : tie.Need-first-refusal-requires
 first-refusal-requires c κs = search needs
 
 returns : tie.Need-returns
-returns c = by-questions (c .before .before .before .before .before .before .args .m) (c .before .before .before .before .before .before .args .length) (c .before .before .before .before .before .before .args .client) (c .before .before .before .before .before .before .args .pane) _ _ _ _ _ _ (c .before .before .before .before .before .valid-multiplexer .ensures) (c .before .before .before .before .has-client .ensures) (c .before .before .before .pane-shared .ensures) (c .before .before .find-client .ensures) (c .before .legal .ensures) (c .first-refusal .ensures)
+returns c = search by-questions
 
 pub open-status-spec : {M : Type 1} → statement M
 open-status-spec =

@@ -1,5 +1,5 @@
 -- Each way through a call, and the reply that it is. Assumes nothing.
-use Prim.Native.Nat.{ℕ, _+_, _-_, _≤_, _<_}
+use Prim.Native.Nat.{ℕ, _+_, _-_, _≤_, _<_, _^_}
 use mathlib.Core.Path.{_≡_, refl, sym, ap, _∙_, subst}
 use mathlib.Core.Bool.{Bool, true, false, cond, _&&_}
 use mathlib.Core.List.{List, [], _++_}
@@ -12,6 +12,7 @@ use Rattle.screen.specs.Cells.{OnScreen}
 use Rattle.screen.proofs.Tests.{and-left, by-test}
 use Rattle.block.specs.Block.{widthOf, heightOf, blockLength, blockFits, blockOf, restored, rowStart, rowCells}
 use Rattle.block.proofs.Rows.{length-block, row-fits}
+use Rattle.block.proofs.Restores.{length-restored}
 use Rattle.port.specs.declared.Port.{Port}
 use Rattle.port.specs.Valid.{valid, Valid}
 use Rattle.port.specs.Stream.{stream}
@@ -60,10 +61,18 @@ pub fit-length : (r : Rect) (block : List ℕ) (fits : Bool) → fits ≡ blockF
 unfolding blockFits
 fit-length r block fits k h = eqb-true _ _ (and-left (eqb (length block) (blockLength r)) (eqb (getD block 0 0) (widthOf r) && eqb (getD block 1 0) (heightOf r)) (sym k ∙ h))
 
+-- a lent block has room
+pub block-room : (r : Rect) (n m : ℕ) → n ≡ blockLength r → n ≤ m → blockLength r ≤ m
+block-room r n m size room = omega arith
+
 -- a lent block keeps its length
 pub block-size : (r : Rect) (s block after : List ℕ) {n : ℕ} → OnScreen r → length s ≡ 1920 → n ≡ blockLength r → n ≤ length block → after ≡ blockOf r s ++ drop (blockLength r) block → length after ≡ length block
 block-size r s block after on len size room copied =
     ap length copied ∙ length-append (blockOf r s) (drop (blockLength r) block) ∙ (λ i. length-block r s on len i + length-drop (blockLength r) block i) ∙ omega arith
+
+-- a screen keeps its length
+pub restored-size : (r : Rect) (block s after : List ℕ) → after ≡ restored r block s → length s ≡ 1920 → length after ≡ length s
+restored-size r block s after copied len = ap length copied ∙ length-restored r block s ∙ sym len
 
 -- what a judgement shows
 pub record Fit (p : Port) (s : List ℕ) : Type 0 where
@@ -79,6 +88,16 @@ module _ (p : Port) (s : List ℕ) (j : Judged) (is : j ≡ judgement p (length 
   pub fit : j ≡ Accepted → Fit p s
   unfolding judgement
   fit e = fit-of p s (eqb (length s) 1920) (valid p) refl refl (sym is ∙ e)
+
+  -- .. as `search` takes it: its fields, and that the viewport lies on the screen
+  pub accepted-size : j ≡ Accepted → length s ≡ 1920
+  accepted-size e = fit e .size
+
+  pub accepted-port : j ≡ Accepted → Valid p
+  accepted-port e = fit e .port
+
+  pub accepted-viewport : j ≡ Accepted → OnScreen (p .view .viewport)
+  accepted-viewport e = viewport-on-screen p (fit e .port)
 
   -- refused before it starts
   pub refused-first : (call : Port → List ℕ → List ℕ → Reply) (block : List ℕ) (status : Status) → j ≡ Refused status → judged call p s block ≡ refusal status p s block
@@ -133,6 +152,8 @@ module _ (p : Port) (s : List ℕ) (j : Judged) (is : j ≡ judgement p (length 
       subst (λ (x : Reply). Replies x r s block) (sym (accepted-call blockRestored block e ∙ simp (sym k ∙ h)))
       (by-answer _ r _ _ _ _ _ a refl refl refl refl refl)
 
+pub ruleset accepted = (accepted-size, accepted-port, accepted-viewport)
+
 -- an answer in place, put together with its port: a write leaves its stream as it came, refused or not
 pub replies-by-value : (p : Port) (s bytes : List ℕ) (b : ByteAnswer) (q : Port) (t : List ℕ) (r : Answer) → RepliesInPlace (writeCall p s bytes) b q t → r ≡ answerOf (b .status) q (b .count) → Replies (writeCall p s bytes) r t bytes
 unfolding judged written
@@ -175,4 +196,11 @@ module _ (p : Port) (s : List ℕ) (j : Judged) (is : j ≡ judgement p (length 
       let f = fit p s j is e in
       let size = f .size in
       let room = row-fits (p .view .viewport) row (viewport-on-screen p (f .port)) (omega arith) in
+      omega arith
+
+  pub row-sum : (row n start w : ℕ) → j ≡ Accepted → n ≡ heightOf (p .view .viewport) → row < n → start ≡ rowStart (p .view .viewport) row → w ≡ widthOf (p .view .viewport)
+      → start + w < 2 ^ 64
+  row-sum row n start w e h small at wide =
+      let size = fit p s j is e .size in
+      let room = row-end row n start w e h small at wide in
       omega arith

@@ -1,10 +1,6 @@
 -- `console::restore_block` meets its contract: refused before it starts, for a block that does not fit, or `copy_in` writes the cells. Assumes nothing.
-use mathlib.Core.Path.{sym, ap, _∙_}
-use lib.ListN.{length}
 use borrow.Author.Needs.{needs}
-use Rattle.block.proofs.Restores.{length-restored}
-use Rattle.console.proofs.Replying.{fit, fit-length, replies-refused, replies-restored, replies-mismatch}
-use Rattle.executor.proofs.Carrying.{viewport-on-screen}
+use Rattle.console.proofs.Replying.{accepted, restored-size, fit-length, replies-refused, replies-restored, replies-mismatch}
 use Rattle.console.proofs.restore_block.Statement.{statement}
 use Rattle.console.proofs.restore_block.Tie as tie
 
@@ -21,22 +17,16 @@ enum-told : tie.Need-enum-told
 enum-told c = search needs
 
 block-fits-requires : tie.Need-block-fits-requires
-block-fits-requires c κs =
-    let fits = fit (c .before .before .before .before .before .before .args .p) (c .before .before .before .before .before .before .args .screen .now) (c .before .before .before .judge .result) (c .before .before .before .judge .ensures) (search needs) in
-    viewport-on-screen _ (fits .port)
+block-fits-requires c κs = search (accepted, needs)
 
 copy-in-requires : tie.Need-copy-in-requires
-copy-in-requires c κs =
-    let fits = fit (c .before .before .before .before .before .before .before .before .before .args .p) (c .before .before .before .before .before .before .before .before .before .args .screen .now) (c .before .before .before .before .before .before .judge .result) (c .before .before .before .before .before .before .judge .ensures) (search needs) in
-    (viewport-on-screen _ (fits .port), fits .size, fit-length _ _ _ (c .before .before .block-fits .ensures) (c .before .if1 .taken))
+copy-in-requires c κs = search (accepted, fit-length, needs)
 
 done-requires : tie.Need-done-requires
 done-requires c κs = search needs
 
 same-length : tie.Need-same-length
-same-length c =
-    let fits = fit (c .before .before .before .before .before .before .before .before .before .before .before .before .before .args .p) (c .before .before .before .before .before .before .before .before .before .before .before .before .before .args .screen .now) (c .before .before .before .before .before .before .before .before .before .before .judge .result) (c .before .before .before .before .before .before .before .before .before .before .judge .ensures) (search needs) in
-    ap length (c .before .before .before .copy-in .ensures) ∙ length-restored _ _ _ ∙ sym (fits .size)
+same-length c = search (restored-size, accepted)
 
 returns : tie.Need-returns
 returns c = search replies-restored

@@ -1,8 +1,6 @@
 -- `console::return_block` meets its contract: refused before it starts, for a short block, or `copy_out` fills the front of the block. Assumes nothing.
-use native.Mathlib.Omega.{arith}
 use borrow.Author.Needs.{needs}
-use Rattle.console.proofs.Replying.{fit, block-size, replies-refused, replies-returned, replies-short}
-use Rattle.executor.proofs.Carrying.{viewport-on-screen}
+use Rattle.console.proofs.Replying.{accepted, block-room, block-size, replies-refused, replies-returned, replies-short}
 use Rattle.console.proofs.return_block.Statement.{statement}
 use Rattle.console.proofs.return_block.Tie as tie
 
@@ -19,9 +17,7 @@ enum-told : tie.Need-enum-told
 enum-told c = search needs
 
 block-length-requires : tie.Need-block-length-requires
-block-length-requires c κs =
-    let fits = fit (c .before .before .before .before .before .before .args .p) (c .before .before .before .before .before .before .args .screen .now) (c .before .before .before .judge .result) (c .before .before .before .judge .ensures) (search needs) in
-    viewport-on-screen _ (fits .port)
+block-length-requires c κs = search (accepted, needs)
 
 refused-requires-2 : tie.Need-refused-requires-2
 refused-requires-2 c κs = search needs
@@ -30,11 +26,7 @@ returns : tie.Need-returns
 returns c = search replies-short
 
 copy-out-requires : tie.Need-copy-out-requires
-copy-out-requires c κs =
-    let fits = fit (c .before .before .before .before .before .before .before .before .before .args .p) (c .before .before .before .before .before .before .before .before .before .args .screen .now) (c .before .before .before .before .before .before .judge .result) (c .before .before .before .before .before .before .judge .ensures) (search needs) in
-    let room = c .before .if1 .left in
-    let size = c .before .before .block-length .ensures in
-    (viewport-on-screen _ (fits .port), fits .size, omega arith)
+copy-out-requires c κs = search (accepted, block-room, needs)
 
 done-requires : tie.Need-done-requires
 done-requires c κs = search needs

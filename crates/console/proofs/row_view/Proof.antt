@@ -1,8 +1,6 @@
 -- `console::row_view` meets its contract: an empty part where the call is refused or the row is past the last, and else the row's own part, which ends on the screen. Assumes nothing.
-use native.Mathlib.Omega.{arith}
 use borrow.Author.Needs.{needs}
-use Rattle.executor.proofs.Carrying.{viewport-on-screen}
-use Rattle.console.proofs.Replying.{fit, row-refused, row-past, row-good, row-end}
+use Rattle.console.proofs.Replying.{accepted, row-sum, row-refused, row-past, row-good, row-end}
 use Rattle.console.proofs.row_view.Statement.{statement}
 use Rattle.console.proofs.row_view.Tie as tie
 
@@ -25,28 +23,22 @@ enum-told-2 : tie.Need-enum-told-2
 enum-told-2 c = search needs
 
 height-requires : tie.Need-height-requires
-height-requires c κs = viewport-on-screen _ (fit (c .before .before .before .before .before .args .p) (c .before .before .before .before .before .args .screen .now) (c .before .before .before .judge .result) (c .before .before .before .judge .ensures) (search needs) .port)
+height-requires c κs = search (accepted, needs)
 
 cast-if1 : tie.Need-cast-if1
 cast-if1 c = search needs
 
 row-start-requires : tie.Need-row-start-requires
-row-start-requires c κs =
-    let tall = c .before .height .ensures in
-    let low = c .if1 .taken in
-    (viewport-on-screen _ (fit (c .before .before .before .before .before .before .before .args .p) (c .before .before .before .before .before .before .before .args .screen .now) (c .before .before .before .before .before .judge .result) (c .before .before .before .before .before .judge .ensures) (search needs) .port), omega arith)
+row-start-requires c κs = search (accepted, needs)
 
 width-requires : tie.Need-width-requires
-width-requires c κs = viewport-on-screen _ (fit (c .before .before .before .before .before .before .before .before .args .p) (c .before .before .before .before .before .before .before .before .args .screen .now) (c .before .before .before .before .before .before .judge .result) (c .before .before .before .before .before .before .judge .ensures) (search needs) .port)
+width-requires c κs = search (accepted, needs)
 
 cast-end : tie.Need-cast-end
 cast-end c = search needs
 
 add-end : tie.Need-add-end
-add-end c =
-    let size = fit (c .before .before .before .before .before .before .before .before .before .args .p) (c .before .before .before .before .before .before .before .before .before .args .screen .now) (c .before .before .before .before .before .before .before .judge .result) (c .before .before .before .before .before .before .before .judge .ensures) (search needs) .size in
-    let room = row-end (c .before .before .before .before .before .before .before .before .before .args .p) (c .before .before .before .before .before .before .before .before .before .args .screen .now) (c .before .before .before .before .before .before .before .judge .result) (c .before .before .before .before .before .before .before .judge .ensures) _ _ _ _ (search needs) (c .before .before .before .height .ensures) (c .before .before .if1 .taken) (c .before .row-start .ensures) (c .width .ensures) in
-    omega arith
+add-end c = search row-sum
 
 sub-result-2 : tie.Need-sub-result-2
 sub-result-2 c = search needs

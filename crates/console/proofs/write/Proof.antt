@@ -1,6 +1,6 @@
 -- `console::write` meets its contract: refused before it starts, or what `carry_stream` leaves is what the definition draws. Assumes nothing.
 use borrow.Author.Needs.{needs}
-use Rattle.console.proofs.Replying.{fit, replies-refused, replies-written}
+use Rattle.console.proofs.Replying.{accepted, replies-refused, replies-written}
 use Rattle.executor.proofs.Carrying.{same-size}
 use Rattle.console.proofs.write.Statement.{statement}
 use Rattle.console.proofs.write.Tie as tie
@@ -18,9 +18,7 @@ enum-told : tie.Need-enum-told
 enum-told c = search needs
 
 carry-stream-requires : tie.Need-carry-stream-requires
-carry-stream-requires c κs =
-    let fits = fit (c .before .before .before .before .before .before .args .p) (c .before .before .before .before .before .before .args .screen .now) (c .before .before .before .judge .result) (c .before .before .before .judge .ensures) (search needs) in
-    (fits .port, fits .size)
+carry-stream-requires c κs = search (accepted, needs)
 
 done-requires : tie.Need-done-requires
 done-requires c κs = search needs

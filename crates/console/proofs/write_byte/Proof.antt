@@ -1,7 +1,7 @@
 -- `console::write_byte` meets its contract: refused before it starts, or what `carry_single` leaves is what the definition draws. Assumes nothing.
 use borrow.Author.Needs.{needs}
 use Rattle.executor.proofs.Carrying.{same-size}
-use Rattle.console.proofs.Replying.{fit, replies-refused, replies-written}
+use Rattle.console.proofs.Replying.{accepted, replies-refused, replies-written}
 use Rattle.console.proofs.write_byte.Statement.{statement}
 use Rattle.console.proofs.write_byte.Tie as tie
 
@@ -18,11 +18,7 @@ enum-told : tie.Need-enum-told
 enum-told c = search needs
 
 carry-single-requires : tie.Need-carry-single-requires
-carry-single-requires c κs =
-    let args = c .before .before .before .before .before .args in
-    let judged = c .before .before .before .judge in
-    let fits = fit (args .p) (args .screen .now) (judged .result) (judged .ensures) (search needs) in
-    (fits .port, fits .size)
+carry-single-requires c κs = search (accepted, needs)
 
 done-requires : tie.Need-done-requires
 done-requires c κs = search needs

@@ -1,7 +1,7 @@
 -- A plan is carried out, a byte, and a stream byte after byte. Assumes nothing.
 use Prim.Native.Nat.{ℕ, zero, suc, _+_, _≤_, _<_}
 use mathlib.Core.Path.{_≡_, refl, sym, ap, _∙_, subst}
-use mathlib.Core.Bool.{true, false, cond, _&&_}
+use mathlib.Core.Bool.{Bool, true, false, cond, _&&_}
 use mathlib.Core.Logic.{⊎-elim}
 use mathlib.Core.List.{List, [], _∷_, _++_}
 use native.Mathlib.Omega.{arith}
@@ -100,11 +100,15 @@ module _ (p : Port) (b : ℕ) (m : Plan) (plan : carriedOut m ≡ step p b) wher
   pub byte-carried : (q : Port) (n : ℕ) (s t : List ℕ) → Carried (carriedOut m) q n s t → Carried (step p b) q n s t
   byte-carried q n s t d = subst (λ (o : Outcome). Carried o q n s t) plan d
 
+-- what the test for a printing code shows, `(waiting == 0) & (32 <= b)`
+is-printed : (p : Port) (b : ℕ) → (eqb (p .waiting) 0 && leb 32 b) ≡ true → (p .waiting ≡ 0) × (32 ≤ b)
+is-printed p b t = (eqb-true (p .waiting) 0 (and-left (eqb (p .waiting) 0) (leb 32 b) t), leb-true 32 b (and-right (eqb (p .waiting) 0) (leb 32 b) t))
+
 -- a printing code, where nothing waits
-module _ (p : Port) (code byte : ℕ) (none : p .waiting ≡ 0) (big : 32 ≤ code) (is : byte ≡ storedByte (modeOf (p .view)) code) where
+module _ (p : Port) (code byte : ℕ) (test : (eqb (p .waiting) 0 && leb 32 code) ≡ true) (is : byte ≡ storedByte (modeOf (p .view)) code) where
   prints-byte : step p code ≡ onView p (printByte (p .view) byte)
   unfolding print
-  prints-byte = step-prints p code none big ∙ ap (λ (x : ℕ). onView p (printByte (p .view) x)) (sym is)
+  prints-byte = let h = is-printed p code test in step-prints p code (h .0) (h .1) ∙ ap (λ (x : ℕ). onView p (printByte (p .view) x)) (sym is)
 
   pub code-on-screen : Valid p → AllOnScreen (printByte (p .view) byte .edits)
   code-on-screen h = subst (λ (o : Outcome). AllOnScreen (o .edits)) prints-byte (step-on-screen p h code)
@@ -113,13 +117,14 @@ module _ (p : Port) (code byte : ℕ) (none : p .waiting ≡ 0) (big : 32 ≤ co
   code-carried q w s t d port =
       subst (λ (o : Outcome). Carried o q 0 s t) (sym prints-byte) (record { port-is = port ∙ ap (withView p) (d .view); bells-are = refl; cells = d .cells })
 
--- what the test for a printing code shows, `(waiting == 0) & (32 <= b)`
-pub is-printed : (p : Port) (b : ℕ) → (eqb (p .waiting) 0 && leb 32 b) ≡ true → (p .waiting ≡ 0) × (32 ≤ b)
-is-printed p b t = (eqb-true (p .waiting) 0 (and-left (eqb (p .waiting) 0) (leb 32 b) t), leb-true 32 b (and-right (eqb (p .waiting) 0) (leb 32 b) t))
+-- by the code's own test
+module _ (p : Port) (b : ℕ) (test : Bool) (is : test ≡ (eqb (p .waiting) 0 && leb 32 b)) where
+  pub passed : test ≡ true → (eqb (p .waiting) 0 && leb 32 b) ≡ true
+  passed t = sym is ∙ t
 
-pub not-printed : (p : Port) (b : ℕ) → Valid p → (eqb (p .waiting) 0 && leb 32 b) ≡ false → parameters (p .waiting) ≤ 0 → b < 32
-not-printed p b h t few =
-    ⊎-elim (λ e. leb-false 32 b (rw (eq-eqb (p .waiting) 0 e) at t)) (λ some. absurd (omega arith)) (h .wait .known)
+  pub not-printed : Valid p → test ≡ false → parameters (p .waiting) ≤ 0 → b < 32
+  not-printed h t few =
+      ⊎-elim (λ e. leb-false 32 b (rw (eq-eqb (p .waiting) 0 e) at (sym is ∙ t))) (λ some. absurd (omega arith)) (h .wait .known)
 
 -- the loop over a stream: what is left of it, done from here, is what was asked
 pub record Streaming (p₀ : Port) (bs s₀ : List ℕ) (i : ℕ) (p : Port) (rung : ℕ) (s : List ℕ) : Type 0 where

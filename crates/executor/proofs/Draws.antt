@@ -1,11 +1,12 @@
 -- Edits that are carried out one after another. Assumes nothing.
 use Prim.Native.Nat.{ℕ, _≤_}
-use mathlib.Core.Path.{_≡_, subst}
+use mathlib.Core.Path.{_≡_, ap, _∙_, subst}
 use mathlib.Core.List.{List, [], _∷_, _++_}
 use native.Mathlib.Omega.{arith}
 use lib.ListN.{length}
 use Rattle.screen.specs.declared.Rect.{Rect}
 use Rattle.screen.specs.declared.Edit.{Edit}
+use Rattle.screen.specs.declared.Motion.{Motion}
 use Rattle.screen.specs.Cells.{OnScreen}
 use Rattle.screen.specs.Edit.{edited, draw}
 use Rattle.screen.specs.Local.{AllWithin}
@@ -39,6 +40,9 @@ draws-nothing change s k = rw k
 pub draws-one : (change : Change) (e : Edit) (s t : List ℕ) → change ≡ Draw e → t ≡ edited (e .rect) (e .motion) (e .fill) s → t ≡ draw (changeList change) s
 unfolding draw
 draws-one change e s t k h = rw k h
+
+pub edited-size : (r : Rect) (m : Motion) (fill : ℕ) (s t : List ℕ) → t ≡ edited r m fill s → length t ≡ 1920
+edited-size r m fill s t e = ap length e ∙ length-edited r m fill s
 
 pub length-draw : (es : List Edit) (s : List ℕ) → length s ≡ 1920 → length (draw es s) ≡ 1920
 unfolding draw

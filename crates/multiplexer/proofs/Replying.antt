@@ -166,10 +166,24 @@ module _ (m : Multiplexer) (size n : ℕ) (r : Rect) where
   unfolding openStatus
   by-questions status valid taken shared legal-is lowest v t h i l e = cc
 
+-- a legal pane lies on the screen
+pane-on-screen : (r : Rect) → Legal r → OnScreen r
+pane-on-screen r l = record { across = let h = l .wide in omega arith; down = let h = l .tall in omega arith; right-in = l .right-in; bottom-in = l .bottom-in }
+
 module _ (m : Multiplexer) (s : List ℕ) (n : ℕ) (r : Rect) (status : Status) (is : status ≡ openStatus m (length s) n r) (k : ℕ) (number : k ≡ numberOf status) where
   -- none of the refusals applies where the number is 0
   pub open-fits : k ≡ 0 → Opens m (length s) n r
   open-fits z = opens m (length s) n r (ap numberOf (sym is) ∙ sym number ∙ z)
+
+  -- .. as `search` takes it
+  pub open-length : k ≡ 0 → length s ≡ 1920
+  open-length z = open-fits z .len
+
+  pub open-pane : k ≡ 0 → OnScreen r
+  open-pane z = pane-on-screen r (open-fits z .legal)
+
+  pub open-slot : (i : ℕ) → k ≡ 0 → i ≡ slotOf m 0 → i < 4
+  open-slot i z at = let room = open-fits z .room in omega arith
 
   pub open-done-by : (i : ℕ) (p : Port) (x : Slot) (q : Multiplexer) (a : Answer) (t : List ℕ) → k ≡ 0 → i ≡ slotOf m 0 → p ≡ freshPort r → x ≡ newSlot n p → q ≡ withSlot m i x → a ≡ answerWith Done q 0
       → t ≡ edited r Clear 0xa0 s
@@ -184,6 +198,4 @@ module _ (m : Multiplexer) (s : List ℕ) (n : ℕ) (r : Rect) (status : Status)
       rw (open-refused m s n r (λ o. z (number ∙ ap numberOf (is ∙ opens-done m (length s) n r o))))
       (by-answer (refusal (openStatus m (length s) n r) m s []) a status m 0 s [] e is refl refl refl refl)
 
--- a legal pane lies on the screen
-pub pane-on-screen : (r : Rect) → Legal r → OnScreen r
-pane-on-screen r l = record { across = let h = l .wide in omega arith; down = let h = l .tall in omega arith; right-in = l .right-in; bottom-in = l .bottom-in }
+pub ruleset openings = (open-length, open-pane, open-slot)

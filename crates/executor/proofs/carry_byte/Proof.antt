@@ -1,6 +1,5 @@
 -- `executor::carry_byte` meets its contract: a printing code, or a plan that is the definition's step, whose edits lie inside the viewport. Assumes nothing.
-use mathlib.Core.Path.{sym, _∙_}
-use Rattle.executor.proofs.Carrying.{viewport-on-screen, few-gathered, not-printed, stored-as, plan-on-screen, byte-carried, same-size}
+use Rattle.executor.proofs.Carrying.{passed, viewport-on-screen, few-gathered, not-printed, stored-as, plan-on-screen, byte-carried, same-size}
 use borrow.Author.Needs.{needs}
 use Rattle.executor.proofs.carry_byte.Statement.{statement}
 use Rattle.executor.proofs.carry_byte.Tie as tie
@@ -15,10 +14,7 @@ stored-byte-requires : tie.Need-stored-byte-requires
 stored-byte-requires c κs = search needs
 
 carry-code-requires : tie.Need-carry-code-requires
-carry-code-requires c κs =
-    let start = c .before .before .before .before .before .before in
-    let byte = stored-as (start .args .p .view) _ (start .args .b) (c .before .stored-byte .ensures) (c .before .before .mode-of .ensures) in
-    (start .pre .0, start .pre .2, sym (c .before .before .before .before .is-printed .ensures) ∙ c .before .before .before .if1 .taken, byte)
+carry-code-requires c κs = search (stored-as, passed, needs)
 
 same-length : tie.Need-same-length
 same-length c = search same-size
@@ -27,10 +23,7 @@ returns : tie.Need-returns
 returns c = c .before .before .carry-code .ensures
 
 plan-byte-requires : tie.Need-plan-byte-requires
-plan-byte-requires c κs =
-    let start = c .before .before .before .before in
-    let p = start .args .p in
-    (viewport-on-screen p (start .pre .0), few-gathered p (start .pre .0), not-printed p (start .args .b) (start .pre .0) (sym (c .before .before .is-printed .ensures) ∙ c .before .if1 .left))
+plan-byte-requires c κs = search (viewport-on-screen, few-gathered, not-printed, needs)
 
 carry-out-requires : tie.Need-carry-out-requires
 carry-out-requires c κs = search plan-on-screen

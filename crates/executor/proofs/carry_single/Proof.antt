@@ -1,6 +1,5 @@
 -- `executor::carry_single` meets its contract: a printing code, or a stream of the one byte. Assumes nothing.
-use mathlib.Core.Path.{sym, _∙_}
-use Rattle.executor.proofs.Carrying.{stored-as, single-carried, same-size}
+use Rattle.executor.proofs.Carrying.{passed, stored-as, single-carried, same-size}
 use borrow.Author.Needs.{needs}
 use Rattle.executor.proofs.carry_single.Statement.{statement}
 use Rattle.executor.proofs.carry_single.Tie as tie
@@ -15,10 +14,7 @@ stored-alone-requires : tie.Need-stored-alone-requires
 stored-alone-requires c κs = search needs
 
 carry-code-requires : tie.Need-carry-code-requires
-carry-code-requires c κs =
-    let start = c .before .before .before .before .before .before in
-    let byte = stored-as (start .args .p .view) _ (start .args .b) (c .before .stored-alone .ensures) (c .before .before .mode-of .ensures) in
-    (start .pre .0, start .pre .1, sym (c .before .before .before .before .is-printed .ensures) ∙ c .before .before .before .if1 .taken, byte)
+carry-code-requires c κs = search (stored-as, passed, needs)
 
 same-length : tie.Need-same-length
 same-length c = search same-size

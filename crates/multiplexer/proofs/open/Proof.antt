@@ -1,7 +1,6 @@
 -- `multiplexer::open` meets its contract: refused, or the lowest free slot becomes a fresh one and its pane is blank. Assumes nothing.
 use borrow.Author.Needs.{needs}
-use native.Mathlib.Omega.{arith}
-use Rattle.multiplexer.proofs.Replying.{open-fits, open-done-by, open-refused-by, pane-on-screen}
+use Rattle.multiplexer.proofs.Replying.{openings, open-done-by, open-refused-by}
 use Rattle.multiplexer.proofs.open.Statement.{statement}
 use Rattle.multiplexer.proofs.open.Tie as tie
 
@@ -12,12 +11,7 @@ status-number-requires : tie.Need-status-number-requires
 status-number-requires c κs = search needs
 
 clear-requires : tie.Need-clear-requires
-clear-requires c κs =
-    let args = c .before .before .before .before .before .args in
-    let status = c .before .before .before .open-status .ensures in
-    let number = c .before .before .status-number .ensures in
-    let fits = open-fits (args .m) (args .screen .now) (args .client) (args .pane) _ status _ number (c .before .if1 .taken) in
-    (pane-on-screen _ (fits .legal), fits .len)
+clear-requires c κs = search (openings, needs)
 
 find-client-requires : tie.Need-find-client-requires
 find-client-requires c κs = search needs
@@ -29,13 +23,7 @@ new-slot-requires : tie.Need-new-slot-requires
 new-slot-requires c κs = search needs
 
 with-slot-requires : tie.Need-with-slot-requires
-with-slot-requires c κs =
-    let args = c .before .before .before .before .before .before .before .before .before .before .before .args in
-    let status = c .before .before .before .before .before .before .before .before .before .open-status .ensures in
-    let number = c .before .before .before .before .before .before .before .before .status-number .ensures in
-    let room = open-fits (args .m) (args .screen .now) (args .client) (args .pane) _ status _ number (c .before .before .before .before .before .before .before .if1 .taken) .room in
-    let at = c .before .before .find-client .ensures in
-    omega arith
+with-slot-requires c κs = search openings
 
 answer-with-requires : tie.Need-answer-with-requires
 answer-with-requires c κs = search needs

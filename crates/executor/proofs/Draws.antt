@@ -49,4 +49,7 @@ unfolding draw
 length-draw [] s len = len
 length-draw (e ∷ es) s len = length-draw es _ (length-edited (e .rect) (e .motion) (e .fill) s)
 
+pub drawn-size : (es : List Edit) (s t : List ℕ) → t ≡ draw es s → length s ≡ 1920 → length t ≡ 1920
+drawn-size es s t drawn len = ap length drawn ∙ length-draw es s len
+
 pub ruleset drawings = (drawn-edit, draws-nothing, draws-one)

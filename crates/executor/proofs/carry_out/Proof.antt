@@ -1,9 +1,6 @@
 -- `executor::carry_out` meets its contract: two edits and then the spaces are the plan's edits in their order, which all lie on the screen. Assumes nothing.
-use mathlib.Core.Path.{ap, _∙_}
-use lib.ListN.{length}
 use borrow.Author.Needs.{needs}
-use Rattle.view.specs.Plan.{changeList}
-use Rattle.executor.proofs.Draws.{length-draw}
+use Rattle.executor.proofs.Draws.{drawn-size}
 use Rattle.executor.proofs.Carrying.{plan-first, plan-second, plan-spaces, plan-carried, same-size, stored-as}
 use Rattle.executor.proofs.carry_out.Statement.{statement}
 use Rattle.executor.proofs.carry_out.Tie as tie
@@ -22,13 +19,11 @@ stored-byte-requires c κs = search needs
 
 print-spaces-requires : tie.Need-print-spaces-requires
 print-spaces-requires c κs =
-    let start = c .before .before .before .before .before .before .before .before .before .before .before .before .before .before in
-    let first = c .before .before .before .before .before .before .before .before .before .before .before in
-    let second = c .before .before .before .before .before .before .before in (
-      plan-spaces (start .args .plan) (start .pre .0),
-      stored-as (start .args .plan .port .view) _ 0x20 (c .before .stored-byte .ensures) (c .before .before .mode-of .ensures),
-      ap length (second .draw-change2 .ensures) ∙ length-draw (changeList (start .args .plan .second)) _ (ap length (first .draw-change .ensures) ∙ length-draw (changeList (start .args .plan .first)) _ (start .pre .2)),
-    )
+    let asked = c .before .before .before .before .before .before .before .before .before .before .before .before .before .before .pre in
+    let first = c .before .before .before .before .before .before .before .before .before .before .before .draw-change .ensures in
+    let second = c .before .before .before .before .before .before .before .draw-change2 .ensures in
+    let size = drawn-size _ _ _ second (drawn-size _ _ _ first (asked .2)) in
+    search (plan-spaces, stored-as, needs)
 
 with-view-requires : tie.Need-with-view-requires
 with-view-requires c κs = search needs
@@ -38,8 +33,9 @@ bell-count-requires c κs = search needs
 
 returns : tie.Need-returns
 returns c =
-    let start = c .before .before .before .before .before .before .before .before .before .before .before .before .before .before .before .before .before .before .before in
-    plan-carried (start .args .plan) _ _ _ _ _ _ _ (c .before .before .before .before .before .before .before .before .before .before .before .before .before .before .before .before .draw-change .ensures) (c .before .before .before .before .before .before .before .before .before .before .before .before .draw-change2 .ensures) (c .before .before .before .before .print-spaces .ensures) (c .before .with-view .ensures) (c .bell-count .ensures)
+    let first = c .before .before .before .before .before .before .before .before .before .before .before .before .before .before .before .before .draw-change .ensures in
+    let second = c .before .before .before .before .before .before .before .before .before .before .before .before .draw-change2 .ensures in
+    search plan-carried
 
 same-length : tie.Need-same-length
 same-length c = let start = c .before .before .before .before .before .before .before .before .before .before .before .before .before .before .before .before .before .before .before in same-size (returns c) (start .pre .2)

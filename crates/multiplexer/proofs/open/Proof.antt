@@ -33,10 +33,10 @@ same-length c = search needs
 
 returns : tie.Need-returns
 returns c =
-    let args = c .before .before .before .before .before .before .before .before .before .before .before .before .before .args in
     let status = c .before .before .before .before .before .before .before .before .before .before .before .open-status .ensures in
     let number = c .before .before .before .before .before .before .before .before .before .before .status-number .ensures in
-    open-done-by (args .m) (args .screen .now) (args .client) (args .pane) _ status _ number _ _ _ _ _ _ (c .before .before .before .before .before .before .before .before .before .if1 .taken) (c .before .before .before .before .find-client .ensures) (c .before .before .before .fresh-port .ensures) (c .before .before .new-slot .ensures) (c .before .with-slot .ensures) (c .answer-with .ensures) (c .before .before .before .before .before .before .before .clear .ensures)
+    let done = c .before .before .before .before .before .before .before .before .before .if1 .taken in
+    search open-done-by
 
 answer-with-requires-2 : tie.Need-answer-with-requires-2
 answer-with-requires-2 c κs = search needs

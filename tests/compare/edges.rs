@@ -1,5 +1,5 @@
-//! The library's stream calls at their edges: an answer lent too short or
-//! longer than needed, and screens of another length.
+//! The libraries' stream calls at their edges: an answer lent too short or
+//! longer than needed, writes of no size, and screens of another length.
 
 use crate::console::write;
 use crate::library::{run_stream, Feed};

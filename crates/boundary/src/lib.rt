@@ -1,9 +1,8 @@
 // Runs from Rust, for tests and benchmarks: a script of calls by client, or a plain stream in pieces. Scripts, streams and answers are bytes.
 // No state crosses this boundary. What it assumes of its caller is outside the proofs: each pointer is good for its length, and lent slices do not overlap.
-mod answer;
+mod room;
 mod script;
 
-use answer::has_room;
 use bytes::copy;
 use multiplexer::Answer;
 use multiplexer::close;
@@ -12,6 +11,7 @@ use multiplexer::open;
 use multiplexer::restore_block;
 use multiplexer::return_block;
 use multiplexer::write;
+use room::has_room;
 use script::Call;
 use script::Next;
 use script::next_call;
@@ -141,7 +141,7 @@ pub extern "C" fn combthrift_run_script(
 }
 
 // Hands a stream to a fresh plain console in writes of at most size bytes.
-// The result is the length of the answer, or 0 where size is 0 or there is no room for it, and nothing was done.
+// The result is the length of the answer (`put_end`), or 0, with nothing done, where size is 0 or there is no room for it.
 #[no_mangle]
 pub extern "C" fn combthrift_run_stream(
     bytes: &[u8],

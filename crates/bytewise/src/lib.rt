@@ -5,7 +5,7 @@ use session::fresh_session;
 use session::hand_over_bytes;
 
 // Hands a stream to a fresh plain console, byte after byte by the one-byte call.
-// The result is the length of the answer, or 0 where there is no room for it and nothing was done.
+// The result is the length of the answer (`put_end`), or 0, with nothing done, where there is no room for it.
 #[no_mangle]
 pub extern "C" fn combthrift_put_bytes(
     bytes: &[u8],

@@ -21,18 +21,6 @@ pub fn table_copy() -> [u8; 768]
     STORED
 }
 
-// The same entry with no table at hand: for a single code this is cheaper than a table that is made for it.
-pub fn stored_alone(mode: Mode, code: u8) -> u8
-    ensures { λ r. ⌜ r ≡ storedByte mode code ⌝ }
-{
-    let entry = code as usize;
-    match mode {
-        Mode::Normal => STORED[0 + entry],
-        Mode::Inverse => STORED[256 + entry],
-        Mode::MouseText => STORED[512 + entry],
-    }
-}
-
 // Where a mode's 256 entries start.
 fn row_start(mode: Mode) -> usize
     ensures { λ r. ⌜ r ≡ 256 * rowOf mode ⌝ }
@@ -51,4 +39,16 @@ pub fn stored_byte(table: &[u8; 768], mode: Mode, code: u8) -> u8
 {
     let entry = row_start(mode) + code as usize;
     table[entry]
+}
+
+// The same entry with no table at hand: for a single code this is cheaper than a table that is made for it.
+pub fn stored_alone(mode: Mode, code: u8) -> u8
+    ensures { λ r. ⌜ r ≡ storedByte mode code ⌝ }
+{
+    let entry = code as usize;
+    match mode {
+        Mode::Normal => STORED[0 + entry],
+        Mode::Inverse => STORED[256 + entry],
+        Mode::MouseText => STORED[512 + entry],
+    }
 }

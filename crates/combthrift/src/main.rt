@@ -47,19 +47,32 @@ fn print_cursor(at: Session) {
     io::write_all(STDOUT_FILENO, b"\n");
 }
 
-// The next 4,096 bytes of the input, or what is left of it, in one write. A stream may be cut anywhere.
-fn read_piece(screen: &mut [u8], at: Session) -> Session {
-    let mut piece = io::buffer();
-    let got = io::read_full(STDIN_FILENO, &mut piece);
-    hand_over(screen, at, &piece[..got])
+// The session after a piece, and whether more of the input may follow.
+struct Piece {
+    session: Session,
+    more: bool,
 }
 
-// The input to its end or to 1,048,576 bytes: 256 pieces.
+// The next 4,096 bytes of the input, or what is left of it, in one write. A stream may be cut anywhere.
+fn read_piece(screen: &mut [u8], at: Session) -> Piece {
+    let mut piece = io::buffer();
+    let got = io::read_full(STDIN_FILENO, &mut piece);
+    Piece {
+        session: hand_over(screen, at, &piece[..got]),
+        more: got == 4096,
+    }
+}
+
+// The input to its end or to 1,048,576 bytes: 256 pieces. A read that fails ends it too.
 fn read_all(screen: &mut [u8], at: Session) -> Session {
     let mut now = at;
     let mut left: usize = 256;
     while 0 < left {
-        now = read_piece(screen, now);
+        let piece = read_piece(screen, now);
+        now = piece.session;
+        if !piece.more {
+            return now;
+        }
         left -= 1;
     }
     now

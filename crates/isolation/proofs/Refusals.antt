@@ -3,7 +3,7 @@ use Prim.Native.Nat.{ℕ}
 use mathlib.Core.Path.{_≡_, refl, ap, _∙_}
 use mathlib.Core.Bool.{false}
 use mathlib.Core.Logic.{⊎-elim}
-use mathlib.Core.List.{List}
+use mathlib.Core.List.{List, []}
 use lib.Dec.{ltb, eqb}
 use lib.ListN.{length}
 use lib.Seq.{set-getD}
@@ -18,7 +18,7 @@ use Rattle.slots.specs.declared.Multiplexer.{Multiplexer}
 use Rattle.multiplexer.specs.declared.Status.the-variants.{Done, ScreenLength}
 use Rattle.slots.specs.State.{noSlot, slotAt, slotOf, hasClient, withPort}
 use Rattle.slots.specs.Valid.{validMultiplexer, ValidMultiplexer}
-use Rattle.multiplexer.specs.Calls.{statusOf, Reply, refusal, relayed, onClient}
+use Rattle.multiplexer.specs.Calls.{statusOf, Reply, refusal, relayed, onClient, closeCall}
 use Rattle.isolation.specs.Isolation.{Kind, Call, consoleCall, serve}
 use Rattle.isolation.specs.Isolation.Kind.{Write, Return, Restore}
 use Rattle.isolation.proofs.Serving.{frame}
@@ -52,6 +52,13 @@ client-refuses call m s n block h =
     (λ _. by-test (ChangesNothing m s block) (validMultiplexer m)
     (λ _. by-test (ChangesNothing m s block) (hasClient m n) (λ _. relay-refuses m (slotOf m n) s block _ (h (slotAt m (slotOf m n) .port))) (λ _ e. refl))
     (λ _ e. refl))
+    (λ _ e. refl)
+
+pub close-refuses : (m : Multiplexer) (n : ℕ) → ChangesNothing m [] [] (closeCall m n)
+unfolding closeCall
+close-refuses m n =
+    by-test (ChangesNothing m [] []) (validMultiplexer m)
+    (λ _. by-test (ChangesNothing m [] []) (hasClient m n) (λ _ e. absurd (e refl)) (λ _ e. refl))
     (λ _ e. refl)
 
 pub serve-refuses : (m : Multiplexer) (s : List ℕ) (c : Call) → ChangesNothing m s (c .request .block) (serve m s c)

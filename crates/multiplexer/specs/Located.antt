@@ -14,21 +14,22 @@ use Rattle.slots.specs.State.{slotOf, hasClient}
 use Rattle.slots.specs.Valid.{validMultiplexer}
 use Rattle.multiplexer.specs.Calls.{Reply}
 
--- 2, then 8, and else the place of the client's slot
+-- refusal 2, then 8, and else the place of the client's slot
 unfoldable pub locatedSlot : Multiplexer → ℕ → Located
 locatedSlot m n = cond (validMultiplexer m) (cond (hasClient m n) (At (slotOf m n)) (Refused NotOpen)) (Refused Invalid)
 
--- 1 before them
+-- refusal 1 before them
 unfoldable pub locatedOn : Multiplexer → ℕ → ℕ → Located
 locatedOn m size n = cond (eqb size 1920) (locatedSlot m n) (Refused ScreenLength)
 
 abbrev pub answerWith : Status → Multiplexer → ℕ → Answer
 answerWith status m count = record { status = status; multiplexer = m; count = count }
 
--- 'open: 1 to 7', by the answer to each question
+-- refusals 4 to 7 of an opening, by the answer to each question
 abbrev pub claimRefusal : Bool → Bool → Bool → Bool → Status
 claimRefusal legal taken shared room = cond legal (cond taken ClientTaken (cond shared PaneShared (cond room Done Full))) PaneIllegal
 
+-- 'open: 1 to 7': the first that applies
 abbrev pub firstRefusal : Bool → Bool → Bool → Bool → Bool → Bool → Bool → Status
 firstRefusal sized valid zero legal taken shared room = cond sized (cond valid (cond zero ClientZero (claimRefusal legal taken shared room)) Invalid) ScreenLength
 

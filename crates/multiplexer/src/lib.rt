@@ -76,7 +76,7 @@ enum Located {
     At(usize),
 }
 
-// 2, then 8.
+// Refusal 2, then 8.
 fn locate(m: Multiplexer, client: u8) -> Located
     ensures { λ r. ⌜ r ≡ locatedSlot m client ⌝ }
 {
@@ -89,7 +89,7 @@ fn locate(m: Multiplexer, client: u8) -> Located
     Located::Refused(Status::Invalid)
 }
 
-// 1 before them.
+// Refusal 1 before them.
 fn locate_on(m: Multiplexer, length: usize, client: u8) -> Located
     ensures { λ r. ⌜ r ≡ locatedOn m length client ⌝ }
 {
@@ -200,7 +200,7 @@ fn first_refusal(
     Status::ScreenLength
 }
 
-// 4 to 7 of them.
+// Refusals 4 to 7 of them.
 fn claim_refusal(legal: bool, taken: bool, shared: bool, room: bool) -> Status
     ensures { λ r. ⌜ r ≡ claimRefusal legal taken shared room ⌝ }
 {

@@ -18,7 +18,7 @@ pub record Effect : Type 0 where
 abbrev pub becomes : View → Effect
 becomes v = record { view = v; edits = [] }
 
--- the same view, and edits
+-- a view, and edits
 abbrev pub draws : View → List Edit → Effect
 draws v es = record { view = v; edits = es }
 

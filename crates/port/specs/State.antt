@@ -1,4 +1,4 @@
--- Paper 01, 'Screen and port': the default and the fresh state. Assumes nothing.
+-- Paper 01, 'Screen and port': the default, the zero and the fresh state. Assumes nothing.
 use Prim.Native.Nat.{ℕ}
 use mathlib.Core.Bool.{true, false}
 use mathlib.Core.List.{List, [], _∷_}
@@ -35,7 +35,7 @@ zeros = record {
   mousetext = false;
 }
 
--- the same as a name
+-- .. under a name that stays folded: proofs that do not look into it stay short
 unfoldable pub zeroView : View
 zeroView = zeros
 

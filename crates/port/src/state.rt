@@ -1,4 +1,4 @@
-// The default and the fresh state.
+// The default, the zero and the fresh state.
 use super::Flags;
 use super::Port;
 use super::View;

@@ -4,7 +4,7 @@ use console::status_number;
 ghost use Prim.Native.Nat.{_≤_};
 ghost use lib.ListN.{length};
 
-// The status, and the count as four bytes, low byte first.
+// The status, and the count's low four bytes, lowest first.
 pub fn put_head(answer: &mut [u8], status: u8, count: u64)
     requires { ⌜ 5 ≤ length (now answer) ⌝ }
 {

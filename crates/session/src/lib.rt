@@ -10,7 +10,7 @@ use port::Port;
 ghost use Prim.Native.Nat.{_<_, min};
 ghost use mathlib.Core.Path.{_≡_};
 
-// The status is that of the last call, and Done before the first. There are at most as many bells as bytes, so that the sum never wraps.
+// The status is that of the last call, and Done before the first. There are at most as many bells as bytes, so the sum never wraps.
 pub struct Session {
     pub port: Port,
     pub bells: u64,

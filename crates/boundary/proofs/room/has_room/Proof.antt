@@ -1,11 +1,11 @@
--- `boundary::answer::has_room` meets its contract: what is left of the room after each part is enough for the next. Assumes nothing.
+-- `boundary::room::has_room` meets its contract: what is left of the room after each part is enough for the next. Assumes nothing.
 use native.Mathlib.Omega.{arith}
 use Prim.Native.Nat.{_-_}
 use mathlib.Core.Path.{refl}
 use borrow.Author.Tests.{leb-true}
 use Rattle.screen.proofs.Tests.{not-both}
-use Rattle.boundary.proofs.answer.has_room.Statement.{statement}
-use Rattle.boundary.proofs.answer.has_room.Tie as tie
+use Rattle.boundary.proofs.room.has_room.Statement.{statement}
+use Rattle.boundary.proofs.room.has_room.Tie as tie
 
 returns : tie.Need-returns
 returns c = λ e. absurd (not-both e refl)

@@ -62,17 +62,32 @@ pub fn other_screens() -> Vec<String> {
     let mut faults = Vec::new();
     for length in OTHER_LENGTHS {
         for feed in FEEDS {
-            let mut screen = vec![BLANK; length];
-            let mut answer = [LENT; 7];
-            let given = run_stream(&STREAM, feed, &mut screen, &mut answer);
-            let status = write(Port::fresh(), &mut vec![BLANK; length], &STREAM).0;
-            if given != 7 || answer != [status, 0, 0, 0, 0, 0, 0] || screen != vec![BLANK; length] {
-                faults.push(format!(
-                    "a screen of {} bytes, {:?}: {} and the answer {:02x?}",
-                    length, feed, given, answer
-                ));
+            for stream in [&STREAM[..], &[]] {
+                let mut screen = vec![BLANK; length];
+                let mut answer = [LENT; 7];
+                let given = run_stream(stream, feed, &mut screen, &mut answer);
+                let wanted = [refusal(stream, feed, length), 0, 0, 0, 0, 0, 0];
+                if given != 7 || answer != wanted || screen != vec![BLANK; length] {
+                    faults.push(format!(
+                        "a screen of {} bytes, {:?}, {} bytes: {} and the answer {:02x?}",
+                        length,
+                        feed,
+                        stream.len(),
+                        given,
+                        answer
+                    ));
+                }
             }
         }
     }
     faults
+}
+
+/// The status on a screen of another length. No bytes are one empty write,
+/// which is refused as any other, but no call at all of the one-byte call.
+fn refusal(stream: &[u8], feed: Feed, length: usize) -> u8 {
+    if feed == Feed::Bytes && stream.is_empty() {
+        return 0;
+    }
+    write(Port::fresh(), &mut vec![BLANK; length], stream).0
 }

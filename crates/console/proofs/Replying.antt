@@ -75,9 +75,9 @@ pub restored-size : (r : Rect) (block s after : List ℕ) → after ≡ restored
 restored-size r block s after copied len = ap length copied ∙ length-restored r block s ∙ sym len
 
 -- what a judgement shows
-pub record Fit (p : Port) (s : List ℕ) : Type 0 where
-  pub size : length s ≡ 1920
-  pub port : Valid p
+record Fit (p : Port) (s : List ℕ) : Type 0 where
+  size : length s ≡ 1920
+  port : Valid p
 
 fit-of : (p : Port) (s : List ℕ) (a b : Bool) → eqb (length s) 1920 ≡ a → valid p ≡ b → cond a (cond b Accepted (Refused InvalidPort)) (Refused ScreenLength) ≡ Accepted → Fit p s
 fit-of p s true true e k h = record { size = eqb-true _ _ e; port = decides-valid p .holds k }
@@ -85,7 +85,7 @@ fit-of p s true false e k h = absurd (let z : _≡_ {A = ℕ} 0 1 = cc in omega 
 fit-of p s false b e k h = absurd (let z : _≡_ {A = ℕ} 0 1 = cc in omega arith)
 
 module _ (p : Port) (s : List ℕ) (j : Judged) (is : j ≡ judgement p (length s)) where
-  pub fit : j ≡ Accepted → Fit p s
+  fit : j ≡ Accepted → Fit p s
   unfolding judgement
   fit e = fit-of p s (eqb (length s) 1920) (valid p) refl refl (sym is ∙ e)
 

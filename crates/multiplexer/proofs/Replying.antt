@@ -81,7 +81,7 @@ unfolding locatedSlot
 found m n i j is e = found-by m n i (validMultiplexer m) (hasClient m n) refl refl (sym is ∙ e)
 
 -- on a screen
-pub found-on : (m : Multiplexer) (size n i : ℕ) (j : Located) → j ≡ locatedOn m size n → j ≡ At i → (size ≡ 1920) × Found m n i
+found-on : (m : Multiplexer) (size n i : ℕ) (j : Located) → j ≡ locatedOn m size n → j ≡ At i → (size ≡ 1920) × Found m n i
 unfolding locatedOn
 found-on m size n i j is e = go (eqb size 1920) refl (sym is ∙ e)
   where
@@ -172,7 +172,7 @@ pane-on-screen r l = record { across = let h = l .wide in omega arith; down = le
 
 module _ (m : Multiplexer) (s : List ℕ) (n : ℕ) (r : Rect) (status : Status) (is : status ≡ openStatus m (length s) n r) (k : ℕ) (number : k ≡ numberOf status) where
   -- none of the refusals applies where the number is 0
-  pub open-fits : k ≡ 0 → Opens m (length s) n r
+  open-fits : k ≡ 0 → Opens m (length s) n r
   open-fits z = opens m (length s) n r (ap numberOf (sym is) ∙ sym number ∙ z)
 
   -- .. as `search` takes it

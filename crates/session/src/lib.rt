@@ -47,10 +47,13 @@ fn least(a: usize, b: usize) -> usize
     if a < b { a } else { b }
 }
 
-// The bytes in writes of at most size bytes.
+// The bytes in writes of at most size bytes. No bytes are one empty write, which is judged as any other.
 pub fn hand_over_all(screen: &mut [u8], at: Session, bytes: &[u8], size: usize) -> Session
     requires { ⌜ 0 < size ⌝ }
 {
+    if bytes.len() == 0 {
+        return hand_over(screen, at, bytes);
+    }
     let mut now = at;
     let mut start = 0;
     while start < bytes.len() {

@@ -2,17 +2,12 @@
 use Prim.Native.Nat.{ℕ, _<_}
 use mathlib.Core.Path.{_≡_, ap, _∙_}
 use mathlib.Core.Bool.{Bool, true, cond, _&&_}
-use mathlib.Core.List.{_∷_}
 use lib.Dec.{ltb}
 use borrow.Author.Tests.{ltb-true}
-use Rattle.screen.specs.declared.Edit.{Edit}
 use Rattle.screen.proofs.Tests.{and-right}
 use Rattle.port.specs.declared.View.{View}
-use Rattle.port.specs.Effect.{Effect, becomes, draws, cursorAt}
+use Rattle.port.specs.Effect.{Effect, becomes, cursorAt}
 use Rattle.port.specs.Codes.{lineFeed, feedIfLF, carriageReturn}
-use Rattle.view.specs.declared.Change.the-variants.{Draw}
-use Rattle.view.specs.declared.Moved.{Moved}
-use Rattle.view.specs.Plan.{effectOf, planEffect}
 
 -- a wrap has a line to go to: the second of two joined tests, as a fact
 pub and-below : (t : Bool) (a b : ℕ) → (t && ltb a b) ≡ true → a < b
@@ -24,8 +19,3 @@ pub returned : {r : Effect} {s : View} (v : View) → s ≡ cursorAt v (v .viewp
     → r ≡ carriageReturn v
 unfolding carriageReturn feedIfLF
 returned v p e = e ∙ ap (λ (s : View). cond (v .flags .lf) (lineFeed s) (becomes s)) p
-
--- printing: an edit, and then what another effect does
-pub draws-before : {e : Effect} (m : Moved) (d : Edit) → effectOf m ≡ e
-    → planEffect (record { view = m .view; first = Draw d; second = m .change }) ≡ draws (e .view) (d ∷ e .edits)
-draws-before m d p = ap (λ (e : Effect). draws (e .view) (d ∷ e .edits)) p

@@ -12,6 +12,15 @@ Inv-loop screen₀ bytes size now₀ start₀ screen now start = (start ≤ leng
 abbrev μ-loop : tie.MeasureT-loop
 μ-loop screen₀ bytes size now₀ start₀ screen now start = length bytes - start
 
+hand-over-requires : tie.Need-hand-over-requires Inv-loop μ-loop
+hand-over-requires c κs = search needs
+
+same-length : tie.Need-same-length Inv-loop μ-loop
+same-length c = search needs
+
+returns : tie.Need-returns Inv-loop μ-loop
+returns c = search needs
+
 loop-holds : tie.Need-loop-holds Inv-loop μ-loop
 loop-holds c = search needs
 
@@ -33,8 +42,8 @@ part-hand-over-start c = search needs
 part-hand-over-end : tie.Need-part-hand-over-end Inv-loop μ-loop
 part-hand-over-end c = search needs
 
-hand-over-requires : tie.Need-hand-over-requires Inv-loop μ-loop
-hand-over-requires c κs = search needs
+hand-over-requires-2 : tie.Need-hand-over-requires-2 Inv-loop μ-loop
+hand-over-requires-2 c κs = search needs
 
 loop-less : tie.Need-loop-less Inv-loop μ-loop
 loop-less c = search needs
@@ -42,11 +51,11 @@ loop-less c = search needs
 loop-again : tie.Need-loop-again Inv-loop μ-loop
 loop-again c = search needs
 
-same-length : tie.Need-same-length Inv-loop μ-loop
-same-length c = search needs
+same-length-2 : tie.Need-same-length-2 Inv-loop μ-loop
+same-length-2 c = search needs
 
-returns : tie.Need-returns Inv-loop μ-loop
-returns c = search needs
+returns-2 : tie.Need-returns-2 Inv-loop μ-loop
+returns-2 c = search needs
 
 pub hand-over-all-spec : {M : Type 1} → statement M
 hand-over-all-spec =
@@ -54,6 +63,9 @@ hand-over-all-spec =
     (tie.spec
     Inv-loop
     μ-loop
+    hand-over-requires
+    same-length
+    returns
     loop-holds
     sub-least
     least-requires
@@ -61,8 +73,8 @@ hand-over-all-spec =
     sub-hand-over
     part-hand-over-start
     part-hand-over-end
-    hand-over-requires
+    hand-over-requires-2
     loop-less
     loop-again
-    same-length
-    returns)
+    same-length-2
+    returns-2)

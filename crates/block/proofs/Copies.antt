@@ -7,24 +7,15 @@ use native.Mathlib.Nat.{mul-comm}
 use native.Mathlib.Omega.{arith}
 use lib.ListN.{length, getD, set, drop, length-append, length-drop, List·getD-append}
 use lib.Seq.{ext-getD, getD-drop, getD-append-add}
-use Rattle.screen.specs.declared.Rect.{Rect}
-use Rattle.screen.specs.Cells.{OnScreen, Inside}
-use Rattle.screen.specs.Rewrite.{Rewritten}
-use Rattle.screen.proofs.Tests.{below?}
+use Rattle.rectangle.specs.declared.Rect.{Rect}
+use Rattle.rectangle.specs.Rectangles.{OnScreen, widthOf, heightOf}
+use Rattle.rectangle.specs.Cells.{Inside}
+use Rattle.screen.specs.Rewrite.{Rewritten, Copied}
+use Rattle.laws.proofs.Tests.{below?}
 use Rattle.screen.proofs.Rewrites.{none, ends, holds, wider, then-after, one-after}
-use Rattle.block.specs.Block.{widthOf, heightOf, blockLength, rowStart, blockOf, blockPlace, restored}
+use Rattle.block.specs.Block.{blockLength, rowStart, blockOf, blockPlace, restored}
 use Rattle.block.proofs.Rows.{row-fits, row-inside, length-block, block-row, place-of-row}
 use Rattle.block.proofs.Restores.{length-restored, restored-inside, restored-outside}
-
--- t is s with count bytes of source, those from place from on, from place at on
-abbrev pub Copied : List ℕ → ℕ → ℕ → ℕ → List ℕ → List ℕ → Type 0
-Copied source from at count s t = Rewritten at (at + count) (λ i. getD source (i - at + from) 0) s t
-
-pub one-copied : (source : List ℕ) (from at count : ℕ) {s t : List ℕ} → Copied source from at count s t → at + count < length s
-    → Copied source from at (count + 1) s (set t (at + count) (getD source (from + count) 0))
-one-copied source from at count run h =
-    let place : at + count - at + from ≡ from + count = omega arith in
-    ends (one-after run (omega arith) h (ap (λ i. getD source i 0) (sym place))) refl (omega arith)
 
 -- t is the block b with, after its first two bytes, the cells that the screen s has in the rows before row
 abbrev pub RowsOut : Rect → List ℕ → ℕ → List ℕ → List ℕ → Type 0

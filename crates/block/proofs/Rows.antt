@@ -9,11 +9,12 @@ use borrow.Author.Needs.{needs}
 use borrow.Author.Tests.{eq-eqb}
 use lib.ListN.{length, getD, length-append, length-take, length-drop, List·getD-append}
 use lib.Seq.{getD-take, getD-drop, getD-append-add, ext-getD}
-use Rattle.screen.specs.declared.Rect.{Rect}
-use Rattle.screen.specs.Cells.{columnOf, lineOf, OnScreen, Inside}
-use Rattle.screen.specs.Local.{Agree}
-use Rattle.screen.proofs.Tests.{and-both}
-use Rattle.block.specs.Block.{widthOf, heightOf, blockLength, rowStart, rowCells, rowsFrom, blockOf, blockFits, blockPlace}
+use Rattle.rectangle.specs.declared.Rect.{Rect}
+use Rattle.rectangle.specs.Cells.{columnOf, lineOf, Inside}
+use Rattle.rectangle.specs.Rectangles.{OnScreen, widthOf, heightOf}
+use Rattle.rectangle.specs.Local.{Agree}
+use Rattle.laws.proofs.Tests.{and-both}
+use Rattle.block.specs.Block.{blockLength, rowStart, rowCells, rowsFrom, blockOf, blockFits, blockPlace}
 
 -- a product of two counts of columns or lines is small
 pub product-small : (a b : ℕ) → a ≤ 80 → b ≤ 80 → a * b ≤ 6400

@@ -1,6 +1,6 @@
 // Scripts of calls by client. A call is its kind, the client, and then for an open (0) the pane's left, top, right and bottom, for a close (1) nothing,
 // and for a write (2), a block return (3) or a block restore (4) a length of two bytes, low byte first, and that many bytes.
-use screen::Rect;
+use rectangle::Rect;
 ghost use Prim.Native.Nat.{_≤_, _<_};
 ghost use lib.ListN.{length};
 ghost use Rattle.boundary.specs.Script.{LiesPast};

@@ -6,7 +6,8 @@ use native.Mathlib.Omega.{arith}
 use lib.ListN.{length, take, drop}
 use lib.Seq.{take-at}
 use borrow.Author.Tests.{eq-eqb, lt-ltb, le-ltb}
-use Rattle.block.specs.Block.{heightOf, blockLength, blockOf, restored, rowCells}
+use Rattle.rectangle.specs.Rectangles.{heightOf}
+use Rattle.block.specs.Block.{blockLength, blockOf, restored, rowCells}
 use Rattle.block.proofs.Rows.{length-block, block-fits, row-not-empty}
 use Rattle.block.proofs.Restores.{restore-returned}
 use Rattle.port.specs.declared.Port.{Port}

@@ -6,8 +6,8 @@ use mathlib.Core.List.{List, _++_}
 use lib.Dec.{eqb}
 use lib.ListN.{length}
 use borrow.Author.Tests.{eqb-true}
-use Rattle.screen.specs.Edit.{draw}
-use Rattle.screen.proofs.Tests.{tested}
+use Rattle.rectangle.specs.Edit.{draw}
+use Rattle.laws.proofs.Tests.{tested}
 use Rattle.port.specs.declared.Port.{Port}
 use Rattle.port.specs.Valid.{valid, Valid}
 use Rattle.port.specs.Step.{Outcome}

@@ -7,10 +7,10 @@ use native.Mathlib.Omega.{arith}
 use lib.Dec.{eqb}
 use lib.ListN.{length, take, drop, getD, length-append, length-drop}
 use borrow.Author.Tests.{eqb-true, eq-eqb, ne-eqb, lt-ltb, le-ltb}
-use Rattle.screen.specs.declared.Rect.{Rect}
-use Rattle.screen.specs.Cells.{OnScreen}
-use Rattle.screen.proofs.Tests.{and-left, by-test}
-use Rattle.block.specs.Block.{widthOf, heightOf, blockLength, blockFits, blockOf, restored, rowStart, rowCells}
+use Rattle.rectangle.specs.declared.Rect.{Rect}
+use Rattle.rectangle.specs.Rectangles.{OnScreen, widthOf, heightOf}
+use Rattle.laws.proofs.Tests.{and-left, by-test}
+use Rattle.block.specs.Block.{blockLength, blockFits, blockOf, restored, rowStart, rowCells}
 use Rattle.block.proofs.Rows.{length-block, row-fits}
 use Rattle.block.proofs.Restores.{length-restored}
 use Rattle.port.specs.declared.Port.{Port}
@@ -177,30 +177,8 @@ module _ (p : Port) (s : List ℕ) (j : Judged) (is : j ≡ judgement p (length 
   unfolding rowCall
   row-past row n t e h far empty = let f = fit p s j is e in simp (eq-eqb _ _ (f .size), decides-valid p .passes (f .port), le-ltb row (heightOf (p .view .viewport)) (omega arith)) empty
 
-  pub row-good : (row n start w : ℕ) (t : List ℕ) → j ≡ Accepted → n ≡ heightOf (p .view .viewport) → row < n → start ≡ rowStart (p .view .viewport) row → w ≡ widthOf (p .view .viewport)
-      → t ≡ take (start + w - start) (drop start s)
-      → t ≡ rowCall p s row
-  unfolding rowCall rowCells
-  row-good row n start w t e h small at wide cut =
+  pub row-good : (row n : ℕ) (t : List ℕ) → j ≡ Accepted → n ≡ heightOf (p .view .viewport) → row < n → t ≡ rowCells (p .view .viewport) row s → t ≡ rowCall p s row
+  unfolding rowCall
+  row-good row n t e h small cut =
       let f = fit p s j is e in
-      simp (eq-eqb _ _ (f .size), decides-valid p .passes (f .port), lt-ltb row (heightOf (p .view .viewport)) (omega arith))
-      (cut ∙ (λ i. take (size i) (drop (at i) s)))
-    where
-      size : start + w - start ≡ widthOf (p .view .viewport)
-      size = omega arith
-
-  -- a row's end is on the screen
-  pub row-end : (row n start w : ℕ) → j ≡ Accepted → n ≡ heightOf (p .view .viewport) → row < n → start ≡ rowStart (p .view .viewport) row → w ≡ widthOf (p .view .viewport)
-      → start + w ≤ length s
-  row-end row n start w e h small at wide =
-      let f = fit p s j is e in
-      let size = f .size in
-      let room = row-fits (p .view .viewport) row (viewport-on-screen p (f .port)) (omega arith) in
-      omega arith
-
-  pub row-sum : (row n start w : ℕ) → j ≡ Accepted → n ≡ heightOf (p .view .viewport) → row < n → start ≡ rowStart (p .view .viewport) row → w ≡ widthOf (p .view .viewport)
-      → start + w < 2 ^ 64
-  row-sum row n start w e h small at wide =
-      let size = fit p s j is e .size in
-      let room = row-end row n start w e h small at wide in
-      omega arith
+      simp (eq-eqb _ _ (f .size), decides-valid p .passes (f .port), lt-ltb row (heightOf (p .view .viewport)) (omega arith)) cut

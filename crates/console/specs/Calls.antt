@@ -5,13 +5,14 @@ use mathlib.Core.Bool.{cond, _&&_}
 use mathlib.Core.List.{List, [], _++_}
 use lib.Dec.{ltb, eqb}
 use lib.ListN.{length, drop}
-use Rattle.screen.specs.Edit.{draw}
+use Rattle.rectangle.specs.Edit.{draw}
 use Rattle.port.specs.declared.Port.{Port}
-use Rattle.port.specs.State.{wholeScreen, freshPort}
+use Rattle.rectangle.specs.Rectangles.{wholeScreen, heightOf}
+use Rattle.port.specs.State.{freshPort}
 use Rattle.port.specs.Valid.{valid}
 use Rattle.port.specs.Step.{Outcome}
 use Rattle.port.specs.Stream.{stream}
-use Rattle.block.specs.Block.{heightOf, blockLength, rowCells, blockOf, blockFits, restored}
+use Rattle.block.specs.Block.{blockLength, rowCells, blockOf, blockFits, restored}
 use Rattle.console.specs.declared.Answer.{Answer}
 use Rattle.console.specs.declared.ByteAnswer.{ByteAnswer}
 use Rattle.console.specs.declared.Judged.{Judged}

@@ -4,15 +4,14 @@ use block::block_fits;
 use block::block_length;
 use block::copy_in;
 use block::copy_out;
-use block::height;
-use block::row_start;
-use block::width;
+use block::row_cells;
 use executor::carry_single;
 use executor::carry_stream;
 use port::Port;
 use port::state::fresh_port;
 use port::valid::valid_port;
-use screen::Rect;
+use rectangle::Rect;
+use rectangle::height;
 ghost use mathlib.Core.Path.{_≡_};
 ghost use mathlib.Core.List.{[], _∷_};
 ghost use Rattle.console.specs.Calls.{numberOf, freshConsole, writeCall, returnCall, restoreCall, rowCall, answerOf, judgement, Replies, RepliesInPlace};
@@ -224,9 +223,7 @@ pub fn row_view(p: Port, screen: &[u8], row: usize) -> &[u8]
         Judged::Accepted => {
             let rect = p.view.viewport;
             if row < height(rect) as usize {
-                let start = row_start(rect, row);
-                let end = start + width(rect) as usize;
-                return &screen[start..end];
+                return row_cells(screen, rect, row);
             }
             &screen[0..0]
         }

@@ -1,7 +1,7 @@
 -- P1 to P12 hold: every definition is opened, and antt computes each example. Assumes nothing.
 use mathlib.Core.Path.{refl}
-use Rattle.screen.specs.Cells.{inside}
-use Rattle.screen.specs.Edit.{vacated, origin, editedCell, drawCell}
+use Rattle.rectangle.specs.Cells.{inside}
+use Rattle.rectangle.specs.Edit.{vacated, origin, editedCell, drawCell}
 use Rattle.charset.specs.Stored.{inRange, storedSymbol, storedCapital, storedHigh, storedByte}
 use Rattle.port.specs.State.{zeroView}
 use Rattle.port.specs.Valid.{parameters}

@@ -5,8 +5,8 @@ use mathlib.Core.Bool.{cond}
 use mathlib.Core.List.{List, [], _∷_}
 use lib.Dec.{eqb}
 use lib.ListN.{length, getD}
-use Rattle.screen.specs.declared.Rect.{Rect}
-use Rattle.screen.specs.Tabulate.{tabulate}
+use Rattle.rectangle.specs.declared.Rect.{Rect}
+use Rattle.laws.specs.Tabulate.{tabulate}
 use Rattle.console.specs.declared.Status.the-variants.{Done}
 use Rattle.console.specs.Calls.{Reply, freshConsole, writeCall}
 

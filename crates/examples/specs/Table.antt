@@ -1,8 +1,8 @@
 -- Paper 01, 'Examples at the edges': P1 to P12, and P8 and P10 once more where they show more. Assumes nothing.
 use Prim.Native.Nat.{ℕ}
 use mathlib.Core.List.{List, [], _∷_}
-use Rattle.screen.specs.declared.Rect.{Rect}
-use Rattle.port.specs.State.{rectOf, wholeScreen}
+use Rattle.rectangle.specs.declared.Rect.{Rect}
+use Rattle.rectangle.specs.Rectangles.{rectOf, wholeScreen}
 use Rattle.examples.specs.Example.{Cell, Example}
 
 abbrev cell : ℕ → ℕ → ℕ → Cell

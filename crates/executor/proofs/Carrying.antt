@@ -11,10 +11,10 @@ use lib.Dec.{leb, eqb}
 use borrow.Author.Tests.{eqb-true, eq-eqb, leb-true, leb-false}
 use lib.ListN.{length, drop, getD}
 use lib.Seq.{drop-cons}
-use Rattle.screen.specs.Cells.{OnScreen}
-use Rattle.screen.specs.Edit.{draw}
-use Rattle.screen.proofs.Tests.{by-test, and-left, and-right}
-use Rattle.screen.proofs.Local.{draw-append}
+use Rattle.rectangle.specs.Rectangles.{OnScreen}
+use Rattle.rectangle.specs.Edit.{draw}
+use Rattle.laws.proofs.Tests.{by-test, and-left, and-right}
+use Rattle.rectangle.proofs.Local.{draw-append}
 use Rattle.charset.specs.declared.Mode.{Mode}
 use Rattle.charset.specs.Stored.{storedByte}
 use Rattle.port.specs.declared.View.{View}

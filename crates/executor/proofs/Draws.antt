@@ -4,13 +4,13 @@ use mathlib.Core.Path.{_≡_, ap, _∙_, subst}
 use mathlib.Core.List.{List, [], _∷_, _++_}
 use native.Mathlib.Omega.{arith}
 use lib.ListN.{length}
-use Rattle.screen.specs.declared.Rect.{Rect}
-use Rattle.screen.specs.declared.Edit.{Edit}
-use Rattle.screen.specs.declared.Motion.{Motion}
-use Rattle.screen.specs.Cells.{OnScreen}
-use Rattle.screen.specs.Edit.{edited, draw}
-use Rattle.screen.specs.Local.{AllWithin}
-use Rattle.screen.proofs.Local.{length-edited}
+use Rattle.rectangle.specs.declared.Rect.{Rect}
+use Rattle.rectangle.specs.declared.Edit.{Edit}
+use Rattle.rectangle.specs.declared.Motion.{Motion}
+use Rattle.rectangle.specs.Rectangles.{OnScreen}
+use Rattle.rectangle.specs.Edit.{edited, draw}
+use Rattle.rectangle.specs.Local.{AllWithin}
+use Rattle.rectangle.proofs.Local.{length-edited}
 use Rattle.view.specs.declared.Change.{Change}
 use Rattle.view.specs.declared.Change.the-variants.{Nothing, Draw}
 use Rattle.view.specs.Plan.{changeList}

@@ -6,11 +6,11 @@ use mathlib.Core.List.{List, _++_}
 use native.Mathlib.Omega.{arith}
 use lib.Dec.{ltb}
 use lib.ListN.{length}
-use Rattle.screen.specs.declared.Motion.the-variants.{Clear}
-use Rattle.screen.specs.Cells.{cellAt}
-use Rattle.screen.specs.Edit.{edited, draw}
-use Rattle.screen.proofs.Tests.{by-test}
-use Rattle.screen.proofs.Local.{draw-append}
+use Rattle.rectangle.specs.declared.Motion.the-variants.{Clear}
+use Rattle.rectangle.specs.Rectangles.{cellAt}
+use Rattle.rectangle.specs.Edit.{edited, draw}
+use Rattle.laws.proofs.Tests.{by-test}
+use Rattle.rectangle.proofs.Local.{draw-append}
 use Rattle.charset.specs.declared.Mode.{Mode}
 use Rattle.charset.specs.Stored.{storedByte}
 use Rattle.port.specs.declared.View.{View}

@@ -2,9 +2,9 @@
 use Prim.Native.Nat.{ℕ}
 use mathlib.Core.Path.{_≡_}
 use mathlib.Core.List.{List, [], _∷_}
-use Rattle.screen.specs.declared.Edit.{Edit}
-use Rattle.screen.specs.Cells.{OnScreen}
-use Rattle.screen.specs.Edit.{draw}
+use Rattle.rectangle.specs.declared.Edit.{Edit}
+use Rattle.rectangle.specs.Rectangles.{OnScreen}
+use Rattle.rectangle.specs.Edit.{draw}
 use Rattle.port.specs.declared.View.{View}
 use Rattle.port.specs.declared.Port.{Port}
 use Rattle.port.specs.Effect.{Effect}

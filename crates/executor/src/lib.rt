@@ -17,7 +17,7 @@ ghost use mathlib.Core.Bool.{true, cond, _&&_};
 ghost use mathlib.Core.List.{[], _∷_};
 ghost use lib.Dec.{leb, eqb};
 ghost use lib.ListN.{length};
-ghost use Rattle.screen.specs.Edit.{draw};
+ghost use Rattle.rectangle.specs.Edit.{draw};
 ghost use Rattle.charset.specs.Stored.{Agrees, storedByte};
 ghost use Rattle.port.specs.Valid.{Valid};
 ghost use Rattle.port.specs.Codes.{modeOf, printByte, spaces};

@@ -7,11 +7,11 @@ use mathlib.Core.List.{List, [], _∷_}
 use lib.Dec.{ltb, eqb}
 use lib.ListN.{length}
 use borrow.Author.Tests.{eqb-true}
-use Rattle.screen.specs.declared.Rect.{Rect}
-use Rattle.screen.proofs.Tests.{tested, not-both, below?, by-test, Decides, decides-lt, decides-eq, decides-both, decides-as}
+use Rattle.rectangle.specs.declared.Rect.{Rect}
+use Rattle.laws.proofs.Tests.{tested, not-both, below?, by-test, Decides, decides-lt, decides-eq, decides-both, decides-as}
 use Rattle.block.specs.Block.{blockLength, blockFits}
 use Rattle.port.specs.declared.Port.{Port}
-use Rattle.port.proofs.Validity.{decides-legal}
+use Rattle.rectangle.proofs.Rectangles.{decides-legal}
 use Rattle.console.specs.Calls as console
 use Rattle.slots.specs.declared.Multiplexer.{Multiplexer}
 use Rattle.multiplexer.specs.declared.Status.{Status}

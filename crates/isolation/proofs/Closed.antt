@@ -4,17 +4,19 @@ use mathlib.Core.Path.{_≡_, refl}
 use mathlib.Core.Logic.{⊎-elim}
 use mathlib.Core.List.{[]}
 use Rattle.port.specs.State.{zeroView}
-use Rattle.port.specs.Valid.{zeroRect, isZeroView, noFlags, unusedZero, usedOrZero}
+use Rattle.rectangle.specs.Rectangles.{isZeroRect}
+use Rattle.port.specs.Valid.{isZeroView, noFlags, unusedZero, usedOrZero}
 use Rattle.slots.specs.declared.Multiplexer.{Multiplexer}
 use Rattle.multiplexer.specs.declared.Status.the-variants.{Done, NotOpen}
 use Rattle.slots.specs.State.{freeSlot, freshMultiplexer, slotAt, Open, Closed}
 use Rattle.slots.specs.Valid.{isZeroPort, validSlot, compatible, validSlots, validMultiplexer, ValidMultiplexer}
 use Rattle.multiplexer.specs.Calls.{Reply, refusal, closeCall}
-use Rattle.slots.proofs.Validity.{SlotFacts, fails, decides-zero-port, decides-multiplexer}
+use Rattle.slots.proofs.Validity.{SlotFacts, decides-zero-port, decides-multiplexer}
+use Rattle.laws.proofs.Tests.{fails}
 use Rattle.slots.proofs.Slots.{decides-client, client?, slot-open, slot-set, slot-kept, set-valid}
 
 free-valid : SlotFacts freeSlot
-unfolding freeSlot isZeroPort zeroRect isZeroView noFlags zeroView unusedZero usedOrZero
+unfolding freeSlot isZeroPort isZeroRect isZeroView noFlags zeroView unusedZero usedOrZero
 free-valid = (λ _. decides-zero-port _ .holds refl, λ n. absurd (n refl))
 
 pub record Closing (m : Multiplexer) (i : ℕ) (reply : Reply) : Type 0 where
@@ -45,5 +47,5 @@ close-valid m n v =
 
 -- a fresh multiplexer is valid
 pub fresh-multiplexer : ValidMultiplexer freshMultiplexer
-unfolding freeSlot isZeroPort zeroRect isZeroView noFlags zeroView unusedZero usedOrZero validMultiplexer validSlots validSlot compatible
+unfolding freeSlot isZeroPort isZeroRect isZeroView noFlags zeroView unusedZero usedOrZero validMultiplexer validSlots validSlot compatible
 fresh-multiplexer = decides-multiplexer freshMultiplexer .holds refl

@@ -7,7 +7,7 @@ use mathlib.Core.List.{List, _++_}
 use lib.Dec.{eqb}
 use lib.ListN.{length}
 use borrow.Author.Tests.{eqb-true}
-use Rattle.screen.proofs.Tests.{tested}
+use Rattle.laws.proofs.Tests.{tested}
 use Rattle.port.specs.declared.Port.{Port}
 use Rattle.console.specs.Calls as console
 use Rattle.console.specs.Theorems as consoleTheorems

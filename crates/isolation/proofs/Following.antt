@@ -6,8 +6,8 @@ use mathlib.Core.List.{List, [], _∷_}
 use lib.Dec.{eqb}
 use lib.ListN.{length}
 use borrow.Author.Tests.{eqb-true, eqb-false}
-use Rattle.screen.specs.Local.{Agree}
-use Rattle.screen.proofs.Tests.{tested}
+use Rattle.rectangle.specs.Local.{Agree}
+use Rattle.laws.proofs.Tests.{tested}
 use Rattle.port.specs.declared.Port.{Port}
 use Rattle.port.specs.Valid.{Valid}
 use Rattle.console.specs.declared.Status as consoleStatus

@@ -7,15 +7,16 @@ use mathlib.Core.List.{List, [], _∷_, map}
 use lib.Dec.{eqb}
 use lib.ListN.{length, getD, replicate, length-replicate}
 use borrow.Author.Tests.{eqb-true}
-use Rattle.screen.specs.declared.Rect.{Rect}
-use Rattle.screen.specs.declared.Motion.the-variants.{Clear}
-use Rattle.screen.specs.Cells.{inside}
-use Rattle.screen.specs.Edit.{vacated, editedCell, edited, draw}
-use Rattle.screen.proofs.Tests.{not-both}
-use Rattle.screen.proofs.Local.{length-edited, edited-at}
+use Rattle.rectangle.specs.declared.Rect.{Rect}
+use Rattle.rectangle.specs.declared.Motion.the-variants.{Clear}
+use Rattle.rectangle.specs.Cells.{inside}
+use Rattle.rectangle.specs.Edit.{vacated, editedCell, edited, draw}
+use Rattle.laws.proofs.Tests.{not-both}
+use Rattle.rectangle.proofs.Local.{length-edited, edited-at}
 use Rattle.charset.specs.Stored.{inRange, storedSymbol, storedCapital, storedHigh, storedByte}
-use Rattle.port.specs.State.{rectOf, zeroView, defaultView, freshPort}
-use Rattle.port.specs.Valid.{legal, within, cursorInside, validView, zeroRect, noFlags, isZeroView, validSaved, parameters, usedOrZero, unusedZero, countFits, validWait, valid}
+use Rattle.rectangle.specs.Rectangles.{rectOf, legal, within, isZeroRect, sharesCell}
+use Rattle.port.specs.State.{zeroView, defaultView, freshPort}
+use Rattle.port.specs.Valid.{cursorInside, validView, noFlags, isZeroView, validSaved, parameters, usedOrZero, unusedZero, countFits, validWait, valid}
 use Rattle.port.specs.Codes.{moveCursorRight, modeOf, storeCell, advanced, printByte, print}
 use Rattle.port.specs.Effect.{cursorAt}
 use Rattle.port.specs.Step.{withView, control, obey, step}
@@ -27,7 +28,7 @@ use Rattle.console.specs.Calls as console
 use Rattle.console.specs.Calls.{written, blockReturned, blockRestored}
 use Rattle.slots.specs.declared.Multiplexer.{Multiplexer}
 use Rattle.slots.specs.State.{freeSlot, freshMultiplexer, Open, slotOf, hasClient, freshSlot, Closed}
-use Rattle.slots.specs.Panes.{sharesCell, paneShared}
+use Rattle.slots.specs.Panes.{paneShared}
 use Rattle.slots.specs.Valid.{isZeroPort, validSlot, compatible, validSlots, validMultiplexer, ValidMultiplexer}
 use Rattle.multiplexer.specs.Calls.{Reply, openStatus, opened, openCall}
 use Rattle.isolation.specs.Isolation.{Kind, Request, Call, Answer, serve, serveAll, requestsOf, standalone, answersTo, Isolated, SameEnd}
@@ -61,11 +62,11 @@ unfolding blankScreen
 blank-length = simp length-replicate
 
 first-opened : firstOpening ≡ opened freshMultiplexer blankScreen 7 leftPane
-unfolding firstOpening openCall openStatus validMultiplexer validSlots validSlot compatible isZeroPort freeSlot zeroView zeroRect isZeroView noFlags unusedZero usedOrZero slotOf hasClient paneShared legal
+unfolding firstOpening openCall openStatus validMultiplexer validSlots validSlot compatible isZeroPort freeSlot zeroView isZeroRect isZeroView noFlags unusedZero usedOrZero slotOf hasClient paneShared legal
 first-opened = rw blank-length
 
 second-opened : secondOpening .multiplexer ≡ pair
-unfolding secondOpening pair openCall openStatus validMultiplexer validSlots validSlot compatible isZeroPort freeSlot zeroView zeroRect isZeroView noFlags unusedZero usedOrZero slotOf hasClient paneShared legal sharesCell valid validView within cursorInside validSaved validWait countFits
+unfolding secondOpening pair openCall openStatus validMultiplexer validSlots validSlot compatible isZeroPort freeSlot zeroView isZeroRect isZeroView noFlags unusedZero usedOrZero slotOf hasClient paneShared legal sharesCell valid validView within cursorInside validSaved validWait countFits
 second-opened = rw (first-opened, length-edited leftPane Clear 0xa0 blankScreen)
 
 pub pair-valid : validMultiplexer pair ≡ true

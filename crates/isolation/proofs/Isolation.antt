@@ -9,9 +9,9 @@ use lib.Dec.{eqb}
 use lib.ListN.{length, getD}
 use lib.Seq.{ext-getD}
 use borrow.Author.Tests.{eqb-true, eqb-false, eq-eqb}
-use Rattle.screen.specs.Cells.{Inside}
-use Rattle.screen.proofs.Tests.{tested, below?}
-use Rattle.screen.proofs.Edits.{inside?}
+use Rattle.rectangle.specs.Cells.{Inside}
+use Rattle.laws.proofs.Tests.{tested, below?}
+use Rattle.rectangle.proofs.Edits.{inside?}
 use Rattle.slots.specs.declared.Slot.{Slot}
 use Rattle.slots.specs.declared.Multiplexer.{Multiplexer}
 use Rattle.slots.specs.State.{noSlot, slotAt, pane, Open, Closed}

@@ -7,12 +7,12 @@ use mathlib.Core.List.{List}
 use lib.Dec.{eqb}
 use lib.ListN.{length, getD}
 use borrow.Author.Tests.{eqb-true, eqb-false}
-use Rattle.screen.specs.declared.Rect.{Rect}
-use Rattle.screen.specs.declared.Motion.the-variants.{Clear}
-use Rattle.screen.specs.Cells.{Inside}
-use Rattle.screen.proofs.Tests.{tested}
-use Rattle.screen.proofs.Edits.{cell-vacated}
-use Rattle.screen.proofs.Local.{edited-at, edit-local}
+use Rattle.rectangle.specs.declared.Rect.{Rect}
+use Rattle.rectangle.specs.declared.Motion.the-variants.{Clear}
+use Rattle.rectangle.specs.Cells.{Inside}
+use Rattle.laws.proofs.Tests.{tested}
+use Rattle.rectangle.proofs.Edits.{cell-vacated}
+use Rattle.rectangle.proofs.Local.{edited-at, edit-local}
 use Rattle.port.proofs.Validity.{fresh-valid}
 use Rattle.slots.specs.declared.Multiplexer.{Multiplexer}
 use Rattle.slots.specs.State.{slotAt, Open, slotOf, freshSlot}

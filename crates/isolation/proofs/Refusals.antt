@@ -8,7 +8,7 @@ use lib.Dec.{ltb, eqb}
 use lib.ListN.{length}
 use lib.Seq.{set-getD}
 use borrow.Author.Tests.{eqb-true}
-use Rattle.screen.proofs.Tests.{tested, by-test}
+use Rattle.laws.proofs.Tests.{tested, by-test}
 use Rattle.block.specs.Block.{blockLength, blockFits}
 use Rattle.port.specs.declared.Port.{Port}
 use Rattle.console.specs.Calls as console

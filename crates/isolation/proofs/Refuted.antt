@@ -6,8 +6,8 @@ use mathlib.Core.Bool.{cond}
 use mathlib.Core.List.{List, [], _∷_}
 use lib.Dec.{ltb, eqb}
 use lib.ListN.{length, getD, set, length-set}
-use Rattle.screen.specs.Edit.{draw}
-use Rattle.screen.proofs.Tests.{not-both}
+use Rattle.rectangle.specs.Edit.{draw}
+use Rattle.laws.proofs.Tests.{not-both}
 use Rattle.port.specs.Valid.{parameters}
 use Rattle.port.specs.Step.{control, obey, step}
 use Rattle.port.specs.Stream.{stream}

@@ -4,7 +4,7 @@ use mathlib.Core.Path.{_≡_, refl, ap, _∙_}
 use mathlib.Core.List.{List}
 use lib.Dec.{ltb}
 use lib.ListN.{length, take}
-use Rattle.screen.proofs.Tests.{by-test}
+use Rattle.laws.proofs.Tests.{by-test}
 use Rattle.block.specs.Block.{blockLength}
 use Rattle.port.specs.declared.Port.{Port}
 use Rattle.port.specs.Valid.{Valid}

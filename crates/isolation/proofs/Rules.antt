@@ -5,7 +5,7 @@ use mathlib.Core.Path.{_≡_, sym, ap, _∙_}
 use mathlib.Core.Bool.{Bool, cond}
 use mathlib.Core.Logic.{_⊎_, inl, inr, ⊎-elim}
 use mathlib.Core.List.{List, [], _∷_}
-use Rattle.screen.proofs.Tests.{not-both, by-test, Decides}
+use Rattle.laws.proofs.Tests.{not-both, by-test, Decides}
 use Rattle.multiplexer.specs.declared.Status.{Status}
 use Rattle.multiplexer.specs.declared.Status.the-variants.{Done}
 use Rattle.multiplexer.specs.Calls.{numberOf}

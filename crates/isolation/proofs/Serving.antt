@@ -5,7 +5,7 @@ use mathlib.Core.Logic.{⊎-elim}
 use mathlib.Core.List.{List}
 use lib.ListN.{length, getD}
 use borrow.Author.Tests.{eq-eqb}
-use Rattle.screen.specs.Cells.{Inside}
+use Rattle.rectangle.specs.Cells.{Inside}
 use Rattle.port.specs.declared.Port.{Port}
 use Rattle.port.specs.Valid.{Valid}
 use Rattle.slots.specs.declared.Slot.{Slot}
@@ -15,7 +15,8 @@ use Rattle.slots.specs.State.{slotAt, pane, Open, withPort, Closed}
 use Rattle.slots.specs.Valid.{ValidMultiplexer}
 use Rattle.multiplexer.specs.Calls.{Reply, refusal, relayed, onClient}
 use Rattle.isolation.specs.Isolation.{Call, consoleCall, serve}
-use Rattle.slots.proofs.Validity.{fails, decides-multiplexer}
+use Rattle.laws.proofs.Tests.{fails}
+use Rattle.slots.proofs.Validity.{decides-multiplexer}
 use Rattle.isolation.proofs.Consoles.{keeps-call}
 use Rattle.slots.proofs.Slots.{decides-client, client?, slot-open, slot-kept, at-place, set-valid}
 

@@ -5,8 +5,8 @@ use mathlib.Core.Bool.{true, cond}
 use mathlib.Core.List.{List, [], _∷_, _++_, map}
 use lib.Dec.{eqb}
 use lib.ListN.{length, getD}
-use Rattle.screen.specs.Cells.{Inside}
-use Rattle.screen.specs.Local.{Agree}
+use Rattle.rectangle.specs.Cells.{Inside}
+use Rattle.rectangle.specs.Local.{Agree}
 use Rattle.port.specs.declared.Port.{Port}
 use Rattle.console.specs.Calls as console
 use Rattle.slots.specs.declared.Multiplexer.{Multiplexer}

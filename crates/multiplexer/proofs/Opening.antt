@@ -8,11 +8,11 @@ use mathlib.Core.List.{List, []}
 use lib.Dec.{ltb, eqb}
 use lib.ListN.{length}
 use borrow.Author.Tests.{eqb-true, eqb-false, eq-eqb, ne-eqb, ltb-true, lt-ltb}
-use Rattle.screen.specs.declared.Rect.{Rect}
-use Rattle.screen.specs.Cells.{Inside}
-use Rattle.screen.proofs.Tests.{not-both, Decides, decides-eq, decides-both, decides-as}
-use Rattle.port.specs.Valid.{legal, Legal}
-use Rattle.port.proofs.Validity.{decides-legal}
+use Rattle.rectangle.specs.declared.Rect.{Rect}
+use Rattle.rectangle.specs.Cells.{Inside}
+use Rattle.laws.proofs.Tests.{not-both, Decides, decides-eq, decides-both, decides-as, fails, decides-not, decides-either}
+use Rattle.rectangle.specs.Rectangles.{legal, Legal}
+use Rattle.rectangle.proofs.Rectangles.{decides-legal}
 use Rattle.slots.specs.declared.Multiplexer.{Multiplexer}
 use Rattle.multiplexer.specs.declared.Status.{Status}
 use Rattle.multiplexer.specs.declared.Status.the-variants.{Done, ScreenLength, Invalid, ClientZero, PaneIllegal, ClientTaken, PaneShared, Full}
@@ -20,8 +20,8 @@ use Rattle.slots.specs.State.{slotAt, pane, Open, slotOf, hasClient, Closed}
 use Rattle.slots.specs.Valid.{validMultiplexer, ValidMultiplexer}
 use Rattle.slots.specs.Panes.{sharesPane, paneShared}
 use Rattle.multiplexer.specs.Calls.{numberOf, refusal, openStatus, openCall}
-use Rattle.slots.proofs.Panes.{Overlap, decides-overlap, cell-overlap, overlap-cell}
-use Rattle.slots.proofs.Validity.{fails, decides-not, decides-either, decides-multiplexer}
+use Rattle.rectangle.proofs.Overlaps.{Overlap, decides-overlap, cell-overlap, overlap-cell}
+use Rattle.slots.proofs.Validity.{decides-multiplexer}
 use Rattle.slots.proofs.Slots.{decides-client}
 
 -- ---- a pane that shares a cell with an open one

@@ -7,13 +7,13 @@ use native.Mathlib.Omega.{arith}
 use lib.Dec.{ltb, eqb}
 use lib.ListN.{length}
 use borrow.Author.Tests.{eqb-true, eqb-false, eq-eqb, ltb-true, not-true}
-use Rattle.screen.specs.declared.Rect.{Rect}
-use Rattle.screen.specs.declared.Motion.the-variants.{Clear}
-use Rattle.screen.specs.Cells.{OnScreen}
-use Rattle.screen.specs.Edit.{edited}
-use Rattle.screen.proofs.Tests.{and-left, and-right}
+use Rattle.rectangle.specs.declared.Rect.{Rect}
+use Rattle.rectangle.specs.declared.Motion.the-variants.{Clear}
+use Rattle.rectangle.specs.Rectangles.{OnScreen, Legal, legal}
+use Rattle.rectangle.specs.Edit.{edited}
+use Rattle.laws.proofs.Tests.{and-left, and-right}
 use Rattle.port.specs.declared.Port.{Port}
-use Rattle.port.specs.Valid.{Valid, Legal, legal}
+use Rattle.port.specs.Valid.{Valid}
 use Rattle.console.specs.declared.Answer as console-answer
 use Rattle.console.specs.Calls as console
 use Rattle.console.proofs.Answers as console-answers

@@ -4,11 +4,11 @@ use mathlib.Core.Bool.{cond}
 use mathlib.Core.List.{List, []}
 use lib.Dec.{ltb, eqb}
 use lib.ListN.{length}
-use Rattle.screen.specs.declared.Rect.{Rect}
-use Rattle.screen.specs.declared.Motion.the-variants.{Clear}
-use Rattle.screen.specs.Edit.{edited}
+use Rattle.rectangle.specs.declared.Rect.{Rect}
+use Rattle.rectangle.specs.declared.Motion.the-variants.{Clear}
+use Rattle.rectangle.specs.Edit.{edited}
 use Rattle.port.specs.declared.Port.{Port}
-use Rattle.port.specs.Valid.{legal}
+use Rattle.rectangle.specs.Rectangles.{legal}
 use Rattle.console.specs.declared.Status as consoleStatus
 use Rattle.console.specs.Calls as console
 use Rattle.slots.specs.declared.Multiplexer.{Multiplexer}

@@ -2,8 +2,8 @@
 // No public function has a `requires`: every input, refused or not, has its equation. No answer names a slot's place.
 use port::state::fresh_port;
 use port::state::zero_port;
-use port::valid::legal;
-use screen::Rect;
+use rectangle::Rect;
+use rectangle::legal;
 use screen::clear;
 use slots::Multiplexer;
 use slots::lookup::find_client;

@@ -7,7 +7,7 @@ use native.Mathlib.Nat.{zero-add}
 use native.Mathlib.Omega.{arith}
 use lib.Dec.{T, ltb, eqb, ltb→lt}
 use borrow.Author.Tests.{eqb-true, ltb-false, ne-eqb}
-use Rattle.screen.proofs.Tests.{by-test}
+use Rattle.laws.proofs.Tests.{by-test}
 use Rattle.port.specs.declared.Port.{Port}
 use Rattle.port.specs.Valid.{parameters}
 use Rattle.port.specs.Step.{Outcome, becomesPort, gatherOne, pop, control, obey, perform, parameter, step}

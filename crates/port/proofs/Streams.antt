@@ -4,10 +4,10 @@ use mathlib.Core.Path.{_≡_, refl, sym, ap, _∙_, subst}
 use mathlib.Core.List.{List, [], _∷_, _++_, append-assoc}
 use native.Mathlib.Nat.{add-assoc, zero-add}
 use native.Mathlib.Omega.{arith}
-use Rattle.screen.specs.declared.Rect.{Rect}
-use Rattle.screen.specs.Edit.{draw}
-use Rattle.screen.specs.Local.{Local, AllWithin}
-use Rattle.screen.proofs.Local.{all-append, all-widen, draw-append, draw-local}
+use Rattle.rectangle.specs.declared.Rect.{Rect}
+use Rattle.rectangle.specs.Edit.{draw}
+use Rattle.rectangle.specs.Local.{Local, AllWithin}
+use Rattle.rectangle.proofs.Local.{all-append, all-widen, draw-append, draw-local}
 use Rattle.port.specs.declared.Port.{Port}
 use Rattle.port.specs.Valid.{Valid}
 use Rattle.port.specs.Step.{Outcome, step}

@@ -8,30 +8,17 @@ use native.Mathlib.Omega.{arith}
 use lib.Dec.{ltb, eqb}
 use lib.ListN.{getD}
 use borrow.Author.Tests.{eqb-true, eqb-false, eq-eqb, ne-eqb, not-true}
-use Rattle.screen.specs.declared.Rect.{Rect}
-use Rattle.screen.proofs.Tests.{tested, not-both, Decides, decides-lt, decides-le, decides-eq, decides-both, decides-if, decides-unless, decides-four, decides-as}
+use Rattle.rectangle.proofs.Rectangles.{decides-legal, decides-within}
+use Rattle.rectangle.specs.declared.Rect.{Rect}
+use Rattle.laws.proofs.Tests.{tested, not-both, Decides, decides-lt, decides-le, decides-eq, decides-both, decides-if, decides-unless, decides-four, decides-as, decides-off}
 use Rattle.port.specs.declared.View.{View}
 use Rattle.port.specs.declared.Port.{Port}
-use Rattle.port.specs.State.{rectOf, zeroView, noParameters, defaultView, freshPort}
-use Rattle.port.specs.Valid.{legal, Legal, within, cursorInside, validView, ValidView, zeroRect, noFlags, isZeroView, validSaved, parameters, usedOrZero, unusedZero, countFits, validWait, ValidWait, valid, Valid}
-
-pub decides-legal : (r : Rect) → Decides (legal r) (Legal r)
-unfolding legal
-decides-legal r =
-    decides-as (decides-both (decides-both (decides-lt _ _) (decides-le _ _)) (decides-both (decides-lt _ _) (decides-le _ _)))
-    (λ k. record { wide = k .0 .0; right-in = k .0 .1; tall = k .1 .0; bottom-in = k .1 .1 })
-    (λ h. ((h .wide, h .right-in), (h .tall, h .bottom-in)))
-
--- each edge of one rectangle is in the other
-Edges : Rect → Rect → Type 0
-Edges inner outer = ((outer .left ≤ inner .left) × (inner .right ≤ outer .right)) × ((outer .top ≤ inner .top) × (inner .bottom ≤ outer .bottom))
-
-decides-within : (inner outer : Rect) → Decides (within inner outer) (Edges inner outer)
-unfolding within Edges
-decides-within inner outer = decides-both (decides-both (decides-le _ _) (decides-le _ _)) (decides-both (decides-le _ _) (decides-le _ _))
+use Rattle.rectangle.specs.Rectangles.{rectOf, legal, Legal, within, isZeroRect}
+use Rattle.port.specs.State.{zeroView, noParameters, defaultView, freshPort}
+use Rattle.port.specs.Valid.{cursorInside, validView, ValidView, noFlags, isZeroView, validSaved, parameters, usedOrZero, unusedZero, countFits, validWait, ValidWait, valid, Valid}
 
 pub decides-view : (home : Rect) (v : View) → Decides (validView home v) (ValidView home v)
-unfolding validView cursorInside Edges
+unfolding validView cursorInside
 decides-view home v =
     decides-as
     (decides-both (decides-both (decides-legal (v .viewport)) (decides-within (v .viewport) home))
@@ -47,12 +34,8 @@ decides-view home v =
     })
     (λ h. ((h .legal, omega arith), ((h .from-left, h .to-right), (h .from-top, h .to-bottom))))
 
--- a flag is off
-decides-off : (t : Bool) → Decides (not t) (t ≡ false)
-decides-off t = record { holds = not-true t; passes = λ e. rw e }
-
 decides-zero-view : (v : View) → Decides (isZeroView v) (v ≡ zeroView)
-unfolding isZeroView zeroRect noFlags zeroView
+unfolding isZeroView isZeroRect noFlags zeroView
 decides-zero-view v =
     decides-as
     (decides-both

@@ -3,14 +3,14 @@ use Prim.Native.Nat.{ℕ, zero, suc, _+_, _-_, _/_, _%_, min, max}
 use mathlib.Core.Bool.{Bool, true, false, cond, _&&_}
 use mathlib.Core.List.{List, [], _∷_}
 use lib.Dec.{ltb, leb, eqb}
-use Rattle.screen.specs.declared.Rect.{Rect}
-use Rattle.screen.specs.declared.Edit.{Edit}
-use Rattle.screen.specs.declared.Motion.the-variants.{Clear, Up, Down, Left, Right}
+use Rattle.rectangle.specs.declared.Rect.{Rect}
+use Rattle.rectangle.specs.declared.Edit.{Edit}
+use Rattle.rectangle.specs.declared.Motion.the-variants.{Clear, Up, Down, Left, Right}
 use Rattle.charset.specs.declared.Mode.{Mode}
 use Rattle.charset.specs.declared.Mode.the-variants.{Normal, Inverse, MouseText}
 use Rattle.charset.specs.Stored.{storedByte}
 use Rattle.port.specs.declared.View.{View}
-use Rattle.port.specs.State.{rectOf}
+use Rattle.rectangle.specs.Rectangles.{rectOf}
 use Rattle.port.specs.Effect.{Effect, becomes, draws, andThen, cursorAt, homed, withFlags, withModes, withViewport, eraseEdit, moveEdit, lineSpan, viewLines}
 
 -- $1C: 'right one. At the right edge with wrap: left edge of the next line; on the bottom line, if scroll, the port scrolls up and the cursor goes to the left edge of that line; otherwise it stays'

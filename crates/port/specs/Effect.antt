@@ -2,13 +2,13 @@
 use Prim.Native.Nat.{ℕ}
 use mathlib.Core.Bool.{Bool}
 use mathlib.Core.List.{List, [], _++_}
-use Rattle.screen.specs.declared.Rect.{Rect}
-use Rattle.screen.specs.declared.Edit.{Edit}
-use Rattle.screen.specs.declared.Motion.{Motion}
-use Rattle.screen.specs.declared.Motion.the-variants.{Clear}
+use Rattle.rectangle.specs.declared.Rect.{Rect}
+use Rattle.rectangle.specs.declared.Edit.{Edit}
+use Rattle.rectangle.specs.declared.Motion.{Motion}
+use Rattle.rectangle.specs.declared.Motion.the-variants.{Clear}
 use Rattle.port.specs.declared.Flags.{Flags}
 use Rattle.port.specs.declared.View.{View}
-use Rattle.port.specs.State.{rectOf}
+use Rattle.rectangle.specs.Rectangles.{rectOf}
 
 pub record Effect : Type 0 where
   pub view : View

@@ -1,7 +1,7 @@
 -- What the laws of a step say: it keeps validity and home, and each of its edits lies inside the viewport. Assumes nothing.
 use mathlib.Core.Path.{_≡_}
-use Rattle.screen.specs.declared.Rect.{Rect}
-use Rattle.screen.specs.Local.{AllWithin}
+use Rattle.rectangle.specs.declared.Rect.{Rect}
+use Rattle.rectangle.specs.Local.{AllWithin}
 use Rattle.port.specs.declared.View.{View}
 use Rattle.port.specs.declared.Port.{Port}
 use Rattle.port.specs.Valid.{ValidView, Valid}

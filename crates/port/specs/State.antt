@@ -2,16 +2,10 @@
 use Prim.Native.Nat.{ℕ}
 use mathlib.Core.Bool.{true, false}
 use mathlib.Core.List.{List, [], _∷_}
-use Rattle.screen.specs.declared.Rect.{Rect}
+use Rattle.rectangle.specs.Rectangles.{rectOf}
+use Rattle.rectangle.specs.declared.Rect.{Rect}
 use Rattle.port.specs.declared.View.{View}
 use Rattle.port.specs.declared.Port.{Port}
-
-abbrev pub rectOf : ℕ → ℕ → ℕ → ℕ → Rect
-rectOf left top right bottom = record { left = left; top = top; right = right; bottom = bottom }
-
--- 'home (0,0,79,23)'
-abbrev pub wholeScreen : Rect
-wholeScreen = rectOf 0 0 79 23
 
 -- 'default state: viewport = home, cursor top left, all five flags true, normal text, MouseText off'
 abbrev pub defaultView : Rect → View

@@ -4,7 +4,7 @@ use mathlib.Core.Bool.{true, cond}
 use mathlib.Core.List.{List, []}
 use lib.Dec.{ltb, eqb}
 use lib.ListN.{getD, set}
-use Rattle.screen.specs.declared.Edit.{Edit}
+use Rattle.rectangle.specs.declared.Edit.{Edit}
 use Rattle.port.specs.declared.View.{View}
 use Rattle.port.specs.declared.Port.{Port}
 use Rattle.port.specs.State.{defaultView, noParameters}

@@ -6,28 +6,12 @@ use mathlib.Core.Logic.{_⊎_}
 use mathlib.Core.List.{List}
 use lib.Dec.{ltb, leb, eqb}
 use lib.ListN.{getD}
-use Rattle.screen.specs.declared.Rect.{Rect}
-use Rattle.screen.specs.Local.{Within}
+use Rattle.rectangle.specs.declared.Rect.{Rect}
+use Rattle.rectangle.specs.Rectangles.{Within, Legal, isZeroRect, legal, within}
 use Rattle.port.specs.declared.Flags.{Flags}
 use Rattle.port.specs.declared.View.{View}
 use Rattle.port.specs.declared.Port.{Port}
 use Rattle.port.specs.State.{zeroView}
-
--- 'legal': left < right <= 79 and top < bottom <= 23
-unfoldable pub legal : Rect → Bool
-legal r = (ltb (r .left) (r .right) && leb (r .right) 79) && (ltb (r .top) (r .bottom) && leb (r .bottom) 23)
-
-pub record Legal (r : Rect) : Type 0 where
-  pub wide : r .left < r .right
-  pub right-in : r .right ≤ 79
-  pub tall : r .top < r .bottom
-  pub bottom-in : r .bottom ≤ 23
-
--- each edge of one rectangle is in the other
-unfoldable pub within : Rect → Rect → Bool
-within inner outer =
-    (leb (outer .left) (inner .left) && leb (inner .right) (outer .right))
-    && (leb (outer .top) (inner .top) && leb (inner .bottom) (outer .bottom))
 
 -- 'the cursor lies in the viewport'
 unfoldable pub cursorInside : View → Bool
@@ -48,15 +32,12 @@ pub record ValidView (home : Rect) (v : View) : Type 0 where
   pub to-bottom : v .line ≤ v .viewport .bottom
 
 -- 'fields that carry nothing hold 0'
-unfoldable pub zeroRect : Rect → Bool
-zeroRect r = (eqb (r .left) 0 && eqb (r .top) 0) && (eqb (r .right) 0 && eqb (r .bottom) 0)
-
 unfoldable pub noFlags : Flags → Bool
 noFlags f = ((not (f .dle) && not (f .scroll)) && (not (f .wrap) && not (f .lf))) && not (f .advance)
 
 unfoldable pub isZeroView : View → Bool
 isZeroView v =
-    (zeroRect (v .viewport) && (eqb (v .column) 0 && eqb (v .line) 0))
+    (isZeroRect (v .viewport) && (eqb (v .column) 0 && eqb (v .line) 0))
     && (noFlags (v .flags) && (not (v .inverse) && not (v .mousetext)))
 
 -- 'the same holds of a saved port', which carries nothing where there is none

@@ -3,7 +3,7 @@
 pub mod state;
 pub mod valid;
 
-use screen::Rect;
+use rectangle::Rect;
 
 // What $15 sets: document 000's cursor movement flags.
 pub struct Flags {

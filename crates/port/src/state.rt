@@ -2,7 +2,7 @@
 use super::Flags;
 use super::Port;
 use super::View;
-use screen::Rect;
+use rectangle::Rect;
 ghost use mathlib.Core.Path.{_≡_};
 ghost use Rattle.port.specs.State.{defaultView, zeroView, newPort, zeroPort, freshPort};
 

@@ -2,7 +2,10 @@
 use super::Flags;
 use super::Port;
 use super::View;
-use screen::Rect;
+use rectangle::Rect;
+use rectangle::is_zero_rect;
+use rectangle::legal;
+use rectangle::within;
 ghost use mathlib.Core.Path.{_≡_};
 ghost use Prim.Native.Nat.{_<_};
 ghost use Rattle.port.specs.Valid as rules;
@@ -23,19 +26,6 @@ pub fn parameters(code: u8) -> u8
     }
 }
 
-pub fn legal(r: Rect) -> bool
-    ensures { λ b. ⌜ b ≡ rules.legal r ⌝ }
-{
-    ((r.left < r.right) & (r.right <= 79)) & ((r.top < r.bottom) & (r.bottom <= 23))
-}
-
-fn within(inner: Rect, outer: Rect) -> bool
-    ensures { λ b. ⌜ b ≡ rules.within inner outer ⌝ }
-{
-    ((outer.left <= inner.left) & (inner.right <= outer.right))
-        & ((outer.top <= inner.top) & (inner.bottom <= outer.bottom))
-}
-
 fn cursor_inside(v: View) -> bool
     ensures { λ b. ⌜ b ≡ rules.cursorInside v ⌝ }
 {
@@ -49,12 +39,6 @@ fn valid_view(home: Rect, v: View) -> bool
     (legal(v.viewport) & within(v.viewport, home)) & cursor_inside(v)
 }
 
-pub fn zero_rect(r: Rect) -> bool
-    ensures { λ b. ⌜ b ≡ rules.zeroRect r ⌝ }
-{
-    ((r.left == 0) & (r.top == 0)) & ((r.right == 0) & (r.bottom == 0))
-}
-
 fn no_flags(f: Flags) -> bool
     ensures { λ b. ⌜ b ≡ rules.noFlags f ⌝ }
 {
@@ -64,7 +48,7 @@ fn no_flags(f: Flags) -> bool
 pub fn is_zero_view(v: View) -> bool
     ensures { λ b. ⌜ b ≡ rules.isZeroView v ⌝ }
 {
-    (zero_rect(v.viewport) & ((v.column == 0) & (v.line == 0)))
+    (is_zero_rect(v.viewport) & ((v.column == 0) & (v.line == 0)))
         & (no_flags(v.flags) & (!v.inverse & !v.mousetext))
 }
 

@@ -1,13 +1,13 @@
 -- The laws of `Rewritten`: how a run of places starts, grows and joins another. Assumes nothing.
-use Prim.Native.Nat.{ℕ, _+_, _≤_, _<_}
-use mathlib.Core.Path.{_≡_, refl, _∙_}
+use Prim.Native.Nat.{ℕ, _+_, _-_, _≤_, _<_}
+use mathlib.Core.Path.{_≡_, refl, sym, ap, _∙_}
 use mathlib.Core.Logic.{⊎-elim}
 use mathlib.Core.List.{List}
 use native.Mathlib.Omega.{arith}
 use lib.ListN.{length, getD, set, length-set}
 use lib.Seq.{getD-set-same, getD-set-other}
-use Rattle.screen.specs.Rewrite.{Rewritten}
-use Rattle.screen.proofs.Tests.{below?}
+use Rattle.screen.specs.Rewrite.{Rewritten, Copied}
+use Rattle.laws.proofs.Tests.{below?}
 
 -- nothing is done yet
 pub none : {a : ℕ} {f : ℕ → ℕ} {s : List ℕ} → Rewritten a a f s s
@@ -73,3 +73,17 @@ one-after r le bound same = then-after le (omega arith) r (stored _ _ _ _ (omega
 
 pub one-before : {a e v : ℕ} {f : ℕ → ℕ} {s t : List ℕ} → Rewritten (a + 1) e f s t → a < e → a < length s → v ≡ f a → Rewritten a e f s (set t a v)
 one-before r le bound same = then-before (omega arith) (omega arith) r (stored _ _ _ _ (omega (arith, r .len)) same)
+
+-- one byte more is copied
+pub one-copied : (source : List ℕ) (from at count : ℕ) {s t : List ℕ} → Copied source from at count s t → at + count < length s
+    → Copied source from at (count + 1) s (set t (at + count) (getD source (from + count) 0))
+one-copied source from at count run h =
+    let place : at + count - at + from ≡ from + count = omega arith in
+    ends (one-after run (omega arith) h (ap (λ i. getD source i 0) (sym place))) refl (omega arith)
+
+-- the places by other names
+pub copied-from : (source : List ℕ) (from other at count : ℕ) (s t : List ℕ) → from ≡ other → Copied source from at count s t → Copied source other at count s t
+copied-from source from other at count s t e run = rw (← e) run
+
+pub copied-to : (source : List ℕ) (from at other count : ℕ) (s t : List ℕ) → at ≡ other → Copied source from at count s t → Copied source from other count s t
+copied-to source from at other count s t e run = rw (← e) run

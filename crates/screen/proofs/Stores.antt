@@ -6,11 +6,12 @@ use mathlib.Core.List.{List}
 use native.Mathlib.Omega.{arith}
 use lib.ListN.{length, getD, set, length-set}
 use lib.Seq.{ext-getD, getD-set-same, getD-set-other}
-use Rattle.screen.specs.Cells.{Inside, cellAt}
-use Rattle.screen.specs.Edit.{editedCell, edited}
-use Rattle.screen.specs.declared.Motion.the-variants.{Clear}
-use Rattle.screen.proofs.Edits.{inside?, cell-outside, cell-vacated}
-use Rattle.screen.proofs.Local.{length-edited, edited-at}
+use Rattle.rectangle.specs.Cells.{Inside}
+use Rattle.rectangle.specs.Rectangles.{cellAt}
+use Rattle.rectangle.specs.Edit.{editedCell, edited}
+use Rattle.rectangle.specs.declared.Motion.the-variants.{Clear}
+use Rattle.rectangle.proofs.Edits.{inside?, cell-outside, cell-vacated}
+use Rattle.rectangle.proofs.Local.{length-edited, edited-at}
 
 module _ (column line byte : ℕ) (s : List ℕ) (across : column ≤ 79) (down : line ≤ 23) (len : length s ≡ 1920) where
   -- inside the rectangle is the one cell

@@ -1,6 +1,2 @@
--- What a screen is, and what an edit of one rectangle makes of its cells. Other crates cite `Cells`, `Edit` and `Local`.
-pub mod Tabulate
-pub mod Cells
+-- What a loop over neighbouring cells leaves.
 pub mod Rewrite
-pub mod Edit
-pub mod Local

@@ -1,38 +1,15 @@
 // The screen of paper 01, 'Screen and port': 1,920 bytes, 24 lines of 80 columns, line 0 first, column 0 first.
-// An edit clears, scrolls or shifts one rectangle of it. No other crate changes cells, but for `block`, which copies them in.
+// The loops that read or write its cells: an edit clears, scrolls or shifts one rectangle of it, and neighbouring cells are copied out and in. No other crate indexes the screen.
+use rectangle::Edit;
+use rectangle::Motion;
+use rectangle::Rect;
+use rectangle::width;
 ghost use mathlib.Core.Path.{_≡_};
 ghost use Prim.Native.Nat.{_+_, _-_, _*_, _≤_, _<_, min};
-ghost use lib.ListN.{length, getD};
-ghost use Rattle.screen.specs.Cells.{OnScreen, cellAt};
-ghost use Rattle.screen.specs.Rewrite.{Rewritten};
-ghost use Rattle.screen.specs.Edit.{edited};
-
-// A rectangle of cells. All four edges are inclusive.
-pub struct Rect {
-    pub left: u8,
-    pub top: u8,
-    pub right: u8,
-    pub bottom: u8,
-}
-
-// How the cells of a rectangle move. A cell that none moves to is vacated.
-pub enum Motion {
-    // All are vacated.
-    Clear,
-    // Lines move by one.
-    Up,
-    Down,
-    // Columns move by a number.
-    Left(u8),
-    Right(u8),
-}
-
-// A change of one rectangle: its cells move, and the vacated ones become fill.
-pub struct Edit {
-    pub rect: Rect,
-    pub motion: Motion,
-    pub fill: u8,
-}
+ghost use lib.ListN.{length, take, drop};
+ghost use Rattle.rectangle.specs.Rectangles.{OnScreen, cellAt};
+ghost use Rattle.screen.specs.Rewrite.{Filled, Moved, Copied};
+ghost use Rattle.rectangle.specs.Edit.{edited};
 
 // The index of a cell.
 fn cell_index(column: usize, line: usize) -> usize
@@ -48,14 +25,6 @@ fn least(a: usize, b: usize) -> usize
     if a < b { a } else { b }
 }
 
-// The number of columns.
-fn width(rect: Rect) -> usize
-    requires { ⌜ OnScreen rect ⌝ }
-    ensures { λ r. ⌜ r ≡ rect .right + 1 - rect .left ⌝ }
-{
-    (rect.right - rect.left) as usize + 1
-}
-
 // One cell becomes byte.
 pub fn store_cell(screen: &mut [u8], column: u8, line: u8, byte: u8)
     requires { ⌜ (column ≤ 79) × (line ≤ 23) × (length (now screen) ≡ 1920) ⌝ }
@@ -65,10 +34,60 @@ pub fn store_cell(screen: &mut [u8], column: u8, line: u8, byte: u8)
     screen[index] = byte;
 }
 
+// Bytes of target, count of them from place at on, become those of source from place from on.
+fn copy_run(source: &[u8], from: usize, target: &mut [u8], at: usize, count: usize)
+    requires { ⌜ (from + count ≤ length (now source)) × (at + count ≤ length (now target)) ⌝ }
+    ensures { λ _. ⌜ Copied (now (source .entry)) from at count (now (target .entry)) (now (target .exit)) ⌝ }
+{
+    for k in 0..count {
+        target[at + k] = source[from + k];
+    }
+}
+
+// Cells of a line, count of them from column on, are copied to place at of a block.
+pub fn read_cells(
+    screen: &[u8],
+    column: usize,
+    line: usize,
+    count: usize,
+    block: &mut [u8],
+    at: usize,
+)
+    requires { ⌜ (column + count ≤ 80) × (line ≤ 23) × (length (now screen) ≡ 1920) × (at + count ≤ length (now block)) ⌝ }
+    ensures { λ _. ⌜ Copied (now (screen .entry)) (80 * line + column) at count (now (block .entry)) (now (block .exit)) ⌝ }
+{
+    copy_run(screen, cell_index(column, line), block, at, count);
+}
+
+// Cells of a line, count of them from column on, become the bytes of a block from place at on.
+pub fn write_cells(
+    screen: &mut [u8],
+    column: usize,
+    line: usize,
+    count: usize,
+    block: &[u8],
+    at: usize,
+)
+    requires { ⌜ (column + count ≤ 80) × (line ≤ 23) × (length (now screen) ≡ 1920) × (at + count ≤ length (now block)) ⌝ }
+    ensures { λ _. ⌜ Copied (now (block .entry)) at (80 * line + column) count (now (screen .entry)) (now (screen .exit)) ⌝ }
+{
+    copy_run(block, at, screen, cell_index(column, line), count);
+}
+
+// Cells of a line, count of them from column on, as a part of the lent screen itself.
+pub fn part_of_line(screen: &[u8], column: usize, line: usize, count: usize) -> &[u8]
+    requires { ⌜ (column + count ≤ 80) × (line ≤ 23) × (length (now screen) ≡ 1920) ⌝ }
+    ensures { λ r. ⌜ now r ≡ take count (drop (80 * line + column) (now (screen .entry))) ⌝ }
+{
+    let start = cell_index(column, line);
+    let end = start + count;
+    &screen[start..end]
+}
+
 // Each cell from start up to end becomes byte.
 fn fill_run(screen: &mut [u8], start: usize, end: usize, byte: u8)
     requires { ⌜ (start ≤ end) × (end ≤ length (now screen)) ⌝ }
-    ensures { λ _. ⌜ Rewritten start end (λ i. byte) (now (screen .entry)) (now (screen .exit)) ⌝ }
+    ensures { λ _. ⌜ Filled start end byte (now (screen .entry)) (now (screen .exit)) ⌝ }
 {
     for i in start..end {
         screen[i] = byte;
@@ -78,7 +97,7 @@ fn fill_run(screen: &mut [u8], start: usize, end: usize, byte: u8)
 // Each cell from start up to end becomes the one gap places after it: the first cell first, so that none is read after it was stored to.
 fn pull_run(screen: &mut [u8], start: usize, end: usize, gap: usize)
     requires { ⌜ (start ≤ end) × (end + gap ≤ length (now screen)) ⌝ }
-    ensures { λ _. ⌜ Rewritten start end (λ i. getD (now (screen .entry)) (i + gap) 0) (now (screen .entry)) (now (screen .exit)) ⌝ }
+    ensures { λ _. ⌜ Moved start end (λ i. i + gap) (now (screen .entry)) (now (screen .exit)) ⌝ }
 {
     for i in start..end {
         screen[i] = screen[i + gap];
@@ -88,7 +107,7 @@ fn pull_run(screen: &mut [u8], start: usize, end: usize, gap: usize)
 // Each cell from start up to end becomes the one gap places before it: the last cell first.
 fn push_run(screen: &mut [u8], start: usize, end: usize, gap: usize)
     requires { ⌜ (start ≤ end) × (end ≤ length (now screen)) × (gap ≤ start) ⌝ }
-    ensures { λ _. ⌜ Rewritten start end (λ i. getD (now (screen .entry)) (i - gap) 0) (now (screen .entry)) (now (screen .exit)) ⌝ }
+    ensures { λ _. ⌜ Moved start end (λ i. i - gap) (now (screen .entry)) (now (screen .exit)) ⌝ }
 {
     let mut i = end;
     while start < i {
@@ -100,7 +119,7 @@ fn push_run(screen: &mut [u8], start: usize, end: usize, gap: usize)
 // The scrolling routine: columns start up to end of line target become those of line source, cell after cell.
 fn copy_line(screen: &mut [u8], start: usize, end: usize, source: usize, target: usize)
     requires { ⌜ (start ≤ end) × (end ≤ 80) × (source ≤ 23) × (target ≤ 23) × (length (now screen) ≡ 1920) ⌝ }
-    ensures { λ _. ⌜ Rewritten (80 * target + start) (80 * target + end) (λ i. getD (now (screen .entry)) (i + 80 * source - 80 * target) 0) (now (screen .entry)) (now (screen .exit)) ⌝ }
+    ensures { λ _. ⌜ Moved (80 * target + start) (80 * target + end) (λ i. i + 80 * source - 80 * target) (now (screen .entry)) (now (screen .exit)) ⌝ }
 {
     for column in start..end {
         screen[cell_index(column, target)] = screen[cell_index(column, source)];
@@ -160,7 +179,7 @@ pub fn shift_left(screen: &mut [u8], rect: Rect, count: u8, fill: u8)
     requires { ⌜ OnScreen rect × (length (now screen) ≡ 1920) ⌝ }
     ensures { λ _. ⌜ now (screen .exit) ≡ edited rect (Motion.Left count) fill (now (screen .entry)) ⌝ }
 {
-    let gap = least(count as usize, width(rect));
+    let gap = least(count as usize, width(rect) as usize);
     let end = rect.right as usize + 1;
     let below = rect.bottom as usize + 1;
     for line in (rect.top as usize)..below {
@@ -177,7 +196,7 @@ pub fn shift_right(screen: &mut [u8], rect: Rect, count: u8, fill: u8)
     requires { ⌜ OnScreen rect × (length (now screen) ≡ 1920) ⌝ }
     ensures { λ _. ⌜ now (screen .exit) ≡ edited rect (Motion.Right count) fill (now (screen .entry)) ⌝ }
 {
-    let gap = least(count as usize, width(rect));
+    let gap = least(count as usize, width(rect) as usize);
     let end = rect.right as usize + 1;
     let below = rect.bottom as usize + 1;
     for line in (rect.top as usize)..below {

@@ -8,51 +8,22 @@ use mathlib.Core.List.{List}
 use lib.Dec.{eqb}
 use lib.ListN.{length, getD}
 use borrow.Author.Tests.{eqb-true, eqb-false, eq-eqb, ne-eqb, not-true}
-use Rattle.screen.specs.declared.Rect.{Rect}
-use Rattle.screen.specs.Local.{Apart}
-use Rattle.screen.proofs.Tests.{tested, not-both, below?, Decides, decides-eq, decides-both, decides-if, decides-as, decides-four}
+use Rattle.rectangle.proofs.Rectangles.{decides-zero-rect}
+use Rattle.rectangle.specs.declared.Rect.{Rect}
+use Rattle.rectangle.specs.Rectangles.{Apart, rectOf, wholeScreen, legal, within, isZeroRect}
+use Rattle.laws.proofs.Tests.{tested, not-both, below?, Decides, decides-eq, decides-both, decides-if, decides-as, decides-four, decides-else, decides-either, decides-not}
 use Rattle.port.specs.declared.View.{View}
 use Rattle.port.specs.declared.Port.{Port}
-use Rattle.port.specs.State.{rectOf, wholeScreen, zeroView, noParameters, defaultView}
-use Rattle.port.specs.Valid.{legal, within, cursorInside, validView, zeroRect, noFlags, isZeroView, validSaved, usedOrZero, unusedZero, countFits, validWait, ValidWait, valid, Valid}
+use Rattle.port.specs.State.{zeroView, noParameters, defaultView}
+use Rattle.port.specs.Valid.{cursorInside, validView, noFlags, isZeroView, validSaved, usedOrZero, unusedZero, countFits, validWait, ValidWait, valid, Valid}
 use Rattle.port.proofs.Validity.{decides-valid, decides-wait, no-parameters}
 use Rattle.slots.specs.declared.Slot.{Slot}
 use Rattle.slots.specs.declared.Multiplexer.{Multiplexer}
 use Rattle.slots.specs.State.{slotAt, pane, Open}
 use Rattle.slots.specs.Valid.{isZeroPort, ZeroPort, validSlot, compatible, validSlots, validMultiplexer, ValidMultiplexer}
-use Rattle.slots.proofs.Panes.{Overlap, decides-overlap, overlap-apart, apart-overlap}
-
--- ---- tests joined by 'or' and 'not'
-pub decides-not : {t : Bool} {P : Type 0} → Decides t P → Decides (not t) (P → ⊥)
-decides-not {t} d = record {
-  holds = λ e p. not-both (d .passes p) (not-true t e);
-  passes = λ n. ⊎-elim (λ e. absurd (n (d .holds e))) (λ e. rw e) (tested t);
-}
-
-pub decides-either : {t u : Bool} {P Q : Type 0} → Decides t P → Decides u Q → Decides (t || u) (P ⊎ Q)
-decides-either {t} {u} d e = record {
-  holds = λ k. ⊎-elim (λ h. inl (d .holds h)) (λ h. inr (e .holds (rw h at k))) (tested t);
-  passes = λ k. ⊎-elim (λ p. rw (d .passes p)) (λ q. ⊎-elim (λ h. rw h) (λ h. rw h (e .passes q)) (tested t)) k;
-}
-
--- one fact, or else the other
-decides-else : {t u : Bool} {P Q : Type 0} → Decides t P → Decides u Q → Decides (t || u) ((P → ⊥) → Q)
-decides-else {t} {u} d e = record {
-  holds = λ k no-p. e .holds (⊎-elim (λ h. absurd (no-p (d .holds h))) (λ h. rw h at k) (tested t));
-  passes = λ f. ⊎-elim (λ h. rw h) (λ h. rw h (e .passes (f (λ p. not-both (d .passes p) h)))) (tested t);
-}
-
-pub fails : {t : Bool} {P : Type 0} → Decides t P → (P → ⊥) → t ≡ false
-fails {t} d n = not-true t (decides-not d .passes n)
+use Rattle.rectangle.proofs.Overlaps.{Overlap, decides-overlap, overlap-apart, apart-overlap}
 
 -- ---- a free slot
-decides-zero-rect : (r : Rect) → Decides (zeroRect r) (r ≡ rectOf 0 0 0 0)
-unfolding zeroRect
-decides-zero-rect r =
-    decides-as (decides-both (decides-both (decides-eq _ _) (decides-eq _ _)) (decides-both (decides-eq _ _) (decides-eq _ _)))
-    (λ k i. rectOf (k .0 .0 i) (k .0 .1 i) (k .1 .0 i) (k .1 .1 i))
-    (λ e. ((ap (λ (x : Rect). x .left) e, ap (λ (x : Rect). x .top) e), (ap (λ (x : Rect). x .right) e, ap (λ (x : Rect). x .bottom) e)))
-
 -- a port that has saved nothing is valid only where its saved view is zero
 savedNone : View → Port
 savedNone v = record { home = wholeScreen; view = defaultView wholeScreen; hassaved = false; saved = v; waiting = 0; gathered = noParameters; count = 0 }
@@ -61,7 +32,7 @@ decides-zero-view : (v : View) → Decides (isZeroView v) (v ≡ zeroView)
 unfolding savedNone valid legal validView within cursorInside validSaved validWait countFits unusedZero usedOrZero
 decides-zero-view v = record {
   holds = λ e. decides-valid (savedNone v) .holds (rw e) .unsaved refl;
-  passes = λ e. rw e (unfold isZeroView zeroRect noFlags zeroView in refl);
+  passes = λ e. rw e (unfold isZeroView isZeroRect noFlags zeroView in refl);
 }
 
 pub decides-zero-port : (p : Port) → Decides (isZeroPort p) (ZeroPort p)

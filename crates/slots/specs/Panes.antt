@@ -1,16 +1,11 @@
 -- Paper 01, 'What comes back': when a pane shares a cell with another. Assumes nothing.
 use mathlib.Core.Bool.{Bool, not, _&&_, _||_}
 use lib.Dec.{leb, eqb}
-use Rattle.screen.specs.declared.Rect.{Rect}
+use Rattle.rectangle.specs.Rectangles.{sharesCell}
+use Rattle.rectangle.specs.declared.Rect.{Rect}
 use Rattle.slots.specs.declared.Slot.{Slot}
 use Rattle.slots.specs.declared.Multiplexer.{Multiplexer}
 use Rattle.slots.specs.State.{slotAt}
-
--- two rectangles share a cell
-unfoldable pub sharesCell : Rect → Rect → Bool
-sharesCell r q =
-    (leb (r .left) (q .right) && leb (q .left) (r .right))
-    && (leb (r .top) (q .bottom) && leb (q .top) (r .bottom))
 
 -- 'a pane that shares a cell with an open pane'
 abbrev pub sharesPane : Rect → Slot → Bool

@@ -5,9 +5,10 @@ use mathlib.Core.Bool.{Bool, false, cond, not, _&&_}
 use mathlib.Core.List.{[], _∷_}
 use lib.Dec.{ltb, eqb}
 use lib.ListN.{getD, set}
-use Rattle.screen.specs.declared.Rect.{Rect}
+use Rattle.rectangle.specs.declared.Rect.{Rect}
 use Rattle.port.specs.declared.Port.{Port}
-use Rattle.port.specs.State.{rectOf, zeros, zeroPort, freshPort}
+use Rattle.rectangle.specs.Rectangles.{rectOf}
+use Rattle.port.specs.State.{zeros, zeroPort, freshPort}
 use Rattle.slots.specs.declared.Slot.{Slot}
 use Rattle.slots.specs.declared.Multiplexer.{Multiplexer}
 

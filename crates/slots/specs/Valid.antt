@@ -4,19 +4,18 @@ use mathlib.Core.Path.{_≡_}
 use mathlib.Core.Bool.{Bool, false, cond, not, _&&_, _||_}
 use lib.Dec.{eqb}
 use lib.ListN.{length, getD}
-use Rattle.screen.specs.Local.{Apart}
+use Rattle.rectangle.specs.Rectangles.{Apart, rectOf, isZeroRect, sharesCell}
 use Rattle.port.specs.declared.Port.{Port}
-use Rattle.port.specs.State.{rectOf, zeroView}
-use Rattle.port.specs.Valid.{valid, Valid, zeroRect, isZeroView, unusedZero}
+use Rattle.port.specs.State.{zeroView}
+use Rattle.port.specs.Valid.{valid, Valid, isZeroView, unusedZero}
 use Rattle.slots.specs.declared.Slot.{Slot}
 use Rattle.slots.specs.declared.Multiplexer.{Multiplexer}
-use Rattle.slots.specs.Panes.{sharesCell}
 use Rattle.slots.specs.State.{slotAt, pane, Open, Free}
 
 -- 'every field of a free seat holds 0 or false'
 unfoldable pub isZeroPort : Port → Bool
 isZeroPort p =
-    (zeroRect (p .home) && (isZeroView (p .view) && isZeroView (p .saved)))
+    (isZeroRect (p .home) && (isZeroView (p .view) && isZeroView (p .saved)))
     && (not (p .hassaved) && (eqb (p .waiting) 0 && (unusedZero (p .gathered) 0 && eqb (p .count) 0)))
 
 pub record ZeroPort (p : Port) : Type 0 where

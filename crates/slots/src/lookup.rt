@@ -1,8 +1,8 @@
 // Which slot a client has, and whether a pane is taken.
 use super::Multiplexer;
 use super::Slot;
-use super::valid::shares_cell;
-use screen::Rect;
+use rectangle::Rect;
+use rectangle::shares_cell;
 ghost use mathlib.Core.Path.{_≡_};
 ghost use Rattle.slots.specs.State.{slotOf, hasClient};
 ghost use Rattle.slots.specs.Panes.{sharesPane, paneShared};

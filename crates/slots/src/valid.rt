@@ -5,25 +5,17 @@ use port::Port;
 use port::valid::is_zero_view;
 use port::valid::unused_zero;
 use port::valid::valid_port;
-use port::valid::zero_rect;
-use screen::Rect;
+use rectangle::is_zero_rect;
+use rectangle::shares_cell;
 ghost use mathlib.Core.Path.{_≡_};
-ghost use Rattle.slots.specs.Panes.{sharesCell};
 ghost use Rattle.slots.specs.Valid as rules;
-
-// Two rectangles share a cell.
-pub fn shares_cell(r: Rect, q: Rect) -> bool
-    ensures { λ b. ⌜ b ≡ sharesCell r q ⌝ }
-{
-    ((r.left <= q.right) & (q.left <= r.right)) & ((r.top <= q.bottom) & (q.top <= r.bottom))
-}
 
 // Every field 0 or false.
 fn is_zero_port(p: Port) -> bool
     ensures { λ b. ⌜ b ≡ rules.isZeroPort p ⌝ }
 {
     let gathered = p.gathered;
-    (zero_rect(p.home) & (is_zero_view(p.view) & is_zero_view(p.saved)))
+    (is_zero_rect(p.home) & (is_zero_view(p.view) & is_zero_view(p.saved)))
         & (!p.hassaved & ((p.waiting == 0) & (unused_zero(gathered, 0) & (p.count == 0))))
 }
 

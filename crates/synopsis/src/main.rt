@@ -1,6 +1,6 @@
 use libc::STDOUT_FILENO;
 use multiplexer::Answer;
-use screen::Rect;
+use rectangle::Rect;
 
 // A call's number and count, in decimal.
 fn show(answer: Answer) {

@@ -4,7 +4,7 @@ use mathlib.Core.Path.{_≡_, ap, _∙_}
 use mathlib.Core.Bool.{Bool, true, cond, _&&_}
 use lib.Dec.{ltb}
 use borrow.Author.Tests.{ltb-true}
-use Rattle.screen.proofs.Tests.{and-right}
+use Rattle.laws.proofs.Tests.{and-right}
 use Rattle.port.specs.declared.View.{View}
 use Rattle.port.specs.Effect.{Effect, becomes, cursorAt}
 use Rattle.port.specs.Codes.{lineFeed, feedIfLF, carriageReturn}

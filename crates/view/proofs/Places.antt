@@ -5,12 +5,11 @@ use mathlib.Core.Bool.{Bool, true, _&&_}
 use native.Mathlib.Omega.{arith}
 use lib.Dec.{leb, ltb}
 use borrow.Author.Tests.{leb-true}
-use Rattle.screen.specs.declared.Edit.{Edit}
-use Rattle.screen.specs.declared.Motion.the-variants.{Left}
-use Rattle.screen.specs.Cells.{OnScreen}
-use Rattle.screen.proofs.Tests.{by-test, and-left, and-right}
+use Rattle.rectangle.specs.declared.Edit.{Edit}
+use Rattle.rectangle.specs.declared.Motion.the-variants.{Left}
+use Rattle.rectangle.specs.Rectangles.{OnScreen, rectOf}
+use Rattle.laws.proofs.Tests.{by-test, and-left, and-right}
 use Rattle.port.specs.declared.View.{View}
-use Rattle.port.specs.State.{rectOf}
 use Rattle.port.specs.Effect.{cursorAt, moveEdit}
 use Rattle.port.specs.Codes.{setVertical, setHorizontal, gotoXY, inOffsetRange, resize}
 

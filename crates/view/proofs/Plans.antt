@@ -1,7 +1,7 @@
 -- What `still` and `once` return, as effects; and two plans for one view that make the same edits. Assumes nothing.
 use mathlib.Core.Path.{_≡_, ap, _∙_}
 use mathlib.Core.List.{List, [], _∷_}
-use Rattle.screen.specs.declared.Edit.{Edit}
+use Rattle.rectangle.specs.declared.Edit.{Edit}
 use Rattle.port.specs.declared.View.{View}
 use Rattle.port.specs.Effect.{becomes, draws}
 use Rattle.view.specs.declared.Moved.{Moved}

@@ -1,6 +1,6 @@
 -- The plans of the code, as effects: the edits as a list. Assumes nothing.
 use mathlib.Core.List.{List, [], _∷_, _++_}
-use Rattle.screen.specs.declared.Edit.{Edit}
+use Rattle.rectangle.specs.declared.Edit.{Edit}
 use Rattle.port.specs.declared.View.{View}
 use Rattle.port.specs.Effect.{Effect}
 use Rattle.view.specs.declared.Change.{Change}

@@ -5,7 +5,7 @@ use super::move_cells;
 use super::once;
 use super::still;
 use port::View;
-use screen::Motion;
+use rectangle::Motion;
 ghost use mathlib.Core.Path.{_≡_};
 ghost use Rattle.port.specs.Codes.{moveCursorRight, backspace, lineFeed, moveCursorUp, carriageReturn, advanced};
 ghost use Rattle.view.specs.Plan.{effectOf};

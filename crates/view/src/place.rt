@@ -6,11 +6,11 @@ use super::move_cells;
 use super::once;
 use super::still;
 use port::View;
-use screen::Motion;
-use screen::Rect;
+use rectangle::Motion;
+use rectangle::Rect;
 ghost use mathlib.Core.Path.{_≡_};
 ghost use Prim.Native.Nat.{_≤_, max};
-ghost use Rattle.screen.specs.Cells.{OnScreen};
+ghost use Rattle.rectangle.specs.Rectangles.{OnScreen};
 ghost use Rattle.port.specs.Codes.{horizontalScroll, setVertical, setHorizontal, gotoXY, homeCursor, inOffsetRange, nearestInside, resize, setPortSize};
 ghost use Rattle.view.specs.Plan.{effectOf};
 

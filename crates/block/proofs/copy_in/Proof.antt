@@ -5,22 +5,23 @@ use mathlib.Core.Path.{refl}
 use native.Mathlib.Omega.{arith}
 use borrow.Author.Needs.{needs}
 use Rattle.screen.proofs.Rewrites.{none, ends}
-use Rattle.block.proofs.Rows.{row-fits, row-in-block}
+use Rattle.block.specs.Block.{rowStart}
+use Rattle.block.proofs.Rows.{row-in-block}
 use Rattle.block.proofs.Copies.{RowsIn, row-in, all-in}
 use Rattle.block.proofs.copy_in.Statement.{statement}
 use Rattle.block.proofs.copy_in.Tie as tie
 
 abbrev Inv-loop : tie.InvT-loop
-Inv-loop screen₀ rect block columns lines row₀ screen row = (row ≤ lines) × RowsIn rect block row screen₀ screen
+Inv-loop screen₀ rect block count lines left top row₀ screen row = (row ≤ lines) × RowsIn rect block row screen₀ screen
 
 abbrev μ-loop : tie.MeasureT-loop
-μ-loop screen₀ rect block columns lines row₀ screen row = lines - row
+μ-loop screen₀ rect block count lines left top row₀ screen row = lines - row
 
 width-requires : tie.Need-width-requires Inv-loop μ-loop
 width-requires c κs = search needs
 
-cast-columns : tie.Need-cast-columns Inv-loop μ-loop
-cast-columns c = omega arith
+cast-count : tie.Need-cast-count Inv-loop μ-loop
+cast-count c = omega arith
 
 height-requires : tie.Need-height-requires Inv-loop μ-loop
 height-requires c κs = search needs
@@ -28,20 +29,26 @@ height-requires c κs = search needs
 cast-lines : tie.Need-cast-lines Inv-loop μ-loop
 cast-lines c = omega arith
 
+cast-left : tie.Need-cast-left Inv-loop μ-loop
+cast-left c = omega arith
+
+cast-top : tie.Need-cast-top Inv-loop μ-loop
+cast-top c = omega arith
+
 loop-holds : tie.Need-loop-holds Inv-loop μ-loop
 loop-holds c = (omega arith, ends none refl (omega arith))
+
+add-write-cells : tie.Need-add-write-cells Inv-loop μ-loop
+add-write-cells c = omega arith
 
 row-place-requires : tie.Need-row-place-requires Inv-loop μ-loop
 row-place-requires c κs = search needs
 
-row-start-requires : tie.Need-row-start-requires Inv-loop μ-loop
-row-start-requires c κs = search needs
-
-copy-run-requires : tie.Need-copy-run-requires Inv-loop μ-loop
-copy-run-requires c κs =
-    let rect = c .before .before .before .before .before .before .before .before .before .args .rect in
-    let row = c .before .before .before .before .loop .row in
-    omega (arith, row-fits rect row (search needs) (omega arith), row-in-block rect row (omega arith))
+write-cells-requires : tie.Need-write-cells-requires Inv-loop μ-loop
+write-cells-requires c κs =
+    let rect = c .before .before .before .before .before .before .before .before .before .before .args .rect in
+    let loop = c .before .before .before .loop in
+    omega (arith, row-in-block rect (loop .row) (omega arith))
 
 add-row : tie.Need-add-row Inv-loop μ-loop
 add-row c = omega arith
@@ -50,11 +57,12 @@ loop-less : tie.Need-loop-less Inv-loop μ-loop
 loop-less c = omega arith
 
 loop-again : tie.Need-loop-again Inv-loop μ-loop
+unfolding rowStart
 loop-again c =
-    let a = c .before .before .before .before .before .before .before .before .before .before .before .before .args in
-    let loop = c .before .before .before .before .before .before .before .loop in (
+    let a = c .before .before .before .before .before .before .before .before .before .before .before .before .before .args in
+    let loop = c .before .before .before .before .before .before .loop in (
       omega arith,
-      row-in (a .rect) (search needs) (loop .row) (omega arith) (omega arith) (omega arith) (omega arith) (a .block .now) (omega arith) (c .before .before .copy-run .ensures) (loop .inv .1),
+      row-in (a .rect) (search needs) (loop .row) (omega arith) (omega arith) (omega arith) (omega arith) (a .block .now) (omega arith) (c .before .before .write-cells .ensures) (loop .inv .1),
     )
 
 same-length : tie.Need-same-length Inv-loop μ-loop
@@ -70,13 +78,15 @@ copy-in-spec =
     Inv-loop
     μ-loop
     width-requires
-    cast-columns
+    cast-count
     height-requires
     cast-lines
+    cast-left
+    cast-top
     loop-holds
+    add-write-cells
     row-place-requires
-    row-start-requires
-    copy-run-requires
+    write-cells-requires
     add-row
     loop-less
     loop-again

@@ -1,6 +1,6 @@
--- `console::row_view` meets its contract: an empty part where the call is refused or the row is past the last, and else the row's own part, which ends on the screen. Assumes nothing.
+-- `console::row_view` meets its contract: an empty part where the call is refused or the row is past the last, and else the row's own part. Assumes nothing.
 use borrow.Author.Needs.{needs}
-use Rattle.console.proofs.Replying.{accepted, row-sum, row-refused, row-past, row-good, row-end}
+use Rattle.console.proofs.Replying.{accepted, row-refused, row-past, row-good}
 use Rattle.console.proofs.row_view.Statement.{statement}
 use Rattle.console.proofs.row_view.Tie as tie
 
@@ -28,17 +28,11 @@ height-requires c κs = search (accepted, needs)
 cast-if1 : tie.Need-cast-if1
 cast-if1 c = search needs
 
-row-start-requires : tie.Need-row-start-requires
-row-start-requires c κs = search (accepted, needs)
+row-cells-requires : tie.Need-row-cells-requires
+row-cells-requires c κs = search (accepted, needs)
 
-width-requires : tie.Need-width-requires
-width-requires c κs = search (accepted, needs)
-
-cast-end : tie.Need-cast-end
-cast-end c = search needs
-
-add-end : tie.Need-add-end
-add-end c = search row-sum
+returns : tie.Need-returns
+returns c = search row-good
 
 sub-result-2 : tie.Need-sub-result-2
 sub-result-2 c = search needs
@@ -47,19 +41,7 @@ part-result-start-2 : tie.Need-part-result-start-2
 part-result-start-2 c = search needs
 
 part-result-end-2 : tie.Need-part-result-end-2
-part-result-end-2 c = search row-end
-
-returns : tie.Need-returns
-returns c = search row-good
-
-sub-result-3 : tie.Need-sub-result-3
-sub-result-3 c = search needs
-
-part-result-start-3 : tie.Need-part-result-start-3
-part-result-start-3 c = search needs
-
-part-result-end-3 : tie.Need-part-result-end-3
-part-result-end-3 c = search needs
+part-result-end-2 c = search needs
 
 returns-2 : tie.Need-returns-2
 returns-2 c = search row-refused
@@ -79,16 +61,10 @@ row-view-spec =
     enum-told-2
     height-requires
     cast-if1
-    row-start-requires
-    width-requires
-    cast-end
-    add-end
+    row-cells-requires
+    returns
     sub-result-2
     part-result-start-2
     part-result-end-2
-    returns
-    sub-result-3
-    part-result-start-3
-    part-result-end-3
     returns-2
     returns-3)

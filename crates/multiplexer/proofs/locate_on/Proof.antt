@@ -1,6 +1,6 @@
 -- `multiplexer::locate_on` meets its contract: 1 is asked before the rest. Assumes nothing.
 use borrow.Author.Needs.{needs}
-use Rattle.screen.proofs.Choices.{choices}
+use Rattle.laws.proofs.Choices.{choices}
 use Rattle.multiplexer.specs.Located.{locatedOn}
 use Rattle.multiplexer.proofs.locate_on.Statement.{statement}
 use Rattle.multiplexer.proofs.locate_on.Tie as tie

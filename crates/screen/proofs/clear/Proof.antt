@@ -3,7 +3,7 @@
 use Prim.Native.Nat.{_-_, _≤_}
 use native.Mathlib.Omega.{arith}
 use borrow.Author.Needs.{needs}
-use Rattle.screen.specs.declared.Motion.{Motion}
+use Rattle.rectangle.specs.declared.Motion.{Motion}
 use Rattle.screen.proofs.Rewrites.{none}
 use Rattle.screen.proofs.Lines.{box, box-of, Done, fill-below, all-done}
 use Rattle.screen.proofs.clear.Statement.{statement}

@@ -4,7 +4,7 @@ use Prim.Native.Nat.{_+_, _-_, _≤_}
 use mathlib.Core.Path.{refl, _∙_}
 use native.Mathlib.Omega.{arith}
 use borrow.Author.Needs.{needs}
-use Rattle.screen.specs.declared.Motion.{Motion}
+use Rattle.rectangle.specs.declared.Motion.{Motion}
 use Rattle.screen.proofs.Rewrites.{none, ends}
 use Rattle.screen.proofs.Lines.{box, box-of, Done, down-line, fill-above, all-done}
 use Rattle.screen.proofs.scroll_down.Statement.{statement}

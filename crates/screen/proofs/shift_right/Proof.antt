@@ -4,7 +4,7 @@ use Prim.Native.Nat.{_-_, _≤_}
 use mathlib.Core.Path.{refl}
 use native.Mathlib.Omega.{arith}
 use borrow.Author.Needs.{needs}
-use Rattle.screen.specs.declared.Motion.{Motion}
+use Rattle.rectangle.specs.declared.Motion.{Motion}
 use Rattle.screen.proofs.Rewrites.{none}
 use Rattle.screen.proofs.Lines.{Done, right-line, all-done}
 use Rattle.screen.proofs.shift_right.Statement.{statement}
@@ -18,6 +18,9 @@ abbrev μ-loop : tie.MeasureT-loop
 
 width-requires : tie.Need-width-requires Inv-loop μ-loop
 width-requires c κs = search needs
+
+cast-least : tie.Need-cast-least Inv-loop μ-loop
+cast-least c = search needs
 
 least-requires : tie.Need-least-requires Inv-loop μ-loop
 least-requires c κs = search needs
@@ -87,6 +90,7 @@ shift-right-spec =
     Inv-loop
     μ-loop
     width-requires
+    cast-least
     least-requires
     cast-end
     add-end

@@ -3,7 +3,7 @@ use native.Mathlib.Omega.{arith}
 use Prim.Native.Nat.{_-_}
 use mathlib.Core.Path.{refl}
 use borrow.Author.Tests.{leb-true}
-use Rattle.screen.proofs.Tests.{not-both}
+use Rattle.laws.proofs.Tests.{not-both}
 use Rattle.boundary.proofs.room.has_room.Statement.{statement}
 use Rattle.boundary.proofs.room.has_room.Tie as tie
 

@@ -1,6 +1,6 @@
 -- `planner::saved::pop` meets its contract: the test is the definition's. Assumes nothing.
 use borrow.Author.Needs.{needs}
-use Rattle.screen.proofs.Choices.{choices}
+use Rattle.laws.proofs.Choices.{choices}
 use Rattle.port.specs.Step.{pop}
 use Rattle.planner.proofs.Carried.{in-view}
 use Rattle.planner.proofs.saved.pop.Statement.{statement}

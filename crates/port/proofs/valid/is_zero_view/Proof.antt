@@ -4,8 +4,8 @@ use Rattle.port.specs.Valid.{isZeroView}
 use Rattle.port.proofs.valid.is_zero_view.Statement.{statement}
 use Rattle.port.proofs.valid.is_zero_view.Tie as tie
 
-zero-rect-requires : tie.Need-zero-rect-requires
-zero-rect-requires c κs = search needs
+is-zero-rect-requires : tie.Need-is-zero-rect-requires
+is-zero-rect-requires c κs = search needs
 
 no-flags-requires : tie.Need-no-flags-requires
 no-flags-requires c κs = search needs
@@ -15,4 +15,4 @@ unfolding isZeroView
 returns c = (cc)
 
 pub is-zero-view-spec : {M : Type 1} → statement M
-is-zero-view-spec = tie.close (tie.spec zero-rect-requires no-flags-requires returns)
+is-zero-view-spec = tie.close (tie.spec is-zero-rect-requires no-flags-requires returns)

@@ -1,5 +1,5 @@
 -- `port::valid::parameters` meets its contract: an arm for each code that takes parameters, where the definition computes. Assumes nothing.
-use Rattle.screen.proofs.Choices.{choices}
+use Rattle.laws.proofs.Choices.{choices}
 use Rattle.port.specs.Valid.{parameters}
 use Rattle.port.proofs.Validity.{takes}
 use Rattle.port.proofs.valid.parameters.Statement.{statement}

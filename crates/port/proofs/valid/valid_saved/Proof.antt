@@ -1,6 +1,6 @@
 -- `port::valid::valid_saved` meets its contract: the test is the definition's. Assumes nothing.
 use borrow.Author.Needs.{needs}
-use Rattle.screen.proofs.Choices.{choices}
+use Rattle.laws.proofs.Choices.{choices}
 use Rattle.port.specs.Valid.{validSaved}
 use Rattle.port.proofs.valid.valid_saved.Statement.{statement}
 use Rattle.port.proofs.valid.valid_saved.Tie as tie

@@ -1,6 +1,6 @@
 -- `slots::lookup::find_client` meets its contract: one return for each slot, in order. Assumes nothing.
 use borrow.Author.Needs.{needs}
-use Rattle.screen.proofs.Choices.{choices}
+use Rattle.laws.proofs.Choices.{choices}
 use Rattle.port.specs.State.{zeroView}
 use Rattle.slots.specs.State.{slotOf}
 use Rattle.slots.proofs.lookup.find_client.Statement.{statement}

@@ -4,8 +4,8 @@ use Rattle.slots.specs.Valid.{isZeroPort}
 use Rattle.slots.proofs.valid.is_zero_port.Statement.{statement}
 use Rattle.slots.proofs.valid.is_zero_port.Tie as tie
 
-zero-rect-requires : tie.Need-zero-rect-requires
-zero-rect-requires c κs = search needs
+is-zero-rect-requires : tie.Need-is-zero-rect-requires
+is-zero-rect-requires c κs = search needs
 
 is-zero-view-requires : tie.Need-is-zero-view-requires
 is-zero-view-requires c κs = search needs
@@ -24,7 +24,7 @@ pub is-zero-port-spec : {M : Type 1} → statement M
 is-zero-port-spec =
     tie.close
     (tie.spec
-    zero-rect-requires
+    is-zero-rect-requires
     is-zero-view-requires
     is-zero-view-requires-2
     unused-zero-requires

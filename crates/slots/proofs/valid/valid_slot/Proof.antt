@@ -1,6 +1,6 @@
 -- `slots::valid::valid_slot` meets its contract. Assumes nothing.
 use borrow.Author.Needs.{needs}
-use Rattle.screen.proofs.Choices.{choices}
+use Rattle.laws.proofs.Choices.{choices}
 use Rattle.slots.specs.Valid.{validSlot}
 use Rattle.slots.proofs.valid.valid_slot.Statement.{statement}
 use Rattle.slots.proofs.valid.valid_slot.Tie as tie

@@ -1,6 +1,6 @@
 -- `view::cursor::carriage_return` meets its contract: both ways start at the left edge, and the one with LF goes on as `line_feed` promises. Assumes nothing.
 use borrow.Author.Needs.{needs}
-use Rattle.screen.proofs.Choices.{choices}
+use Rattle.laws.proofs.Choices.{choices}
 use Rattle.view.proofs.Moves.{returned}
 use Rattle.view.proofs.Plans.{plans}
 use Rattle.view.proofs.cursor.carriage_return.Statement.{statement}

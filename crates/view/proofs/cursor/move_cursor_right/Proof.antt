@@ -3,7 +3,7 @@
 use native.Mathlib.Omega.{arith}
 use borrow.Author.Needs.{needs}
 use Rattle.port.specs.Codes.{moveCursorRight}
-use Rattle.screen.proofs.Choices.{choices}
+use Rattle.laws.proofs.Choices.{choices}
 use Rattle.view.proofs.Moves.{and-below}
 use Rattle.view.proofs.Plans.{plans}
 use Rattle.view.proofs.cursor.move_cursor_right.Statement.{statement}

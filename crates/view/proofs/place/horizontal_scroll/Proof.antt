@@ -2,7 +2,7 @@
 -- 255 less a byte, and one more, is 256 less it. Assumes nothing.
 use borrow.Author.Needs.{needs}
 use Rattle.port.specs.Codes.{horizontalScroll}
-use Rattle.screen.proofs.Choices.{choices}
+use Rattle.laws.proofs.Choices.{choices}
 use Rattle.view.proofs.Places.{back-by}
 use Rattle.view.proofs.Plans.{plans}
 use Rattle.view.proofs.place.horizontal_scroll.Statement.{statement}

@@ -1,6 +1,6 @@
 -- `view::place::resize` meets its contract: it makes the definition's test, and sets what the definition sets. Assumes nothing.
 use Rattle.port.specs.Codes.{resize}
-use Rattle.screen.proofs.Choices.{choices}
+use Rattle.laws.proofs.Choices.{choices}
 use Rattle.view.proofs.place.resize.Statement.{statement}
 use Rattle.view.proofs.place.resize.Tie as tie
 

@@ -2,7 +2,7 @@
 -- What `resize` is given is the definition's rectangle. Assumes nothing.
 use borrow.Author.Needs.{needs}
 use Rattle.port.specs.Codes.{setPortSize}
-use Rattle.screen.proofs.Choices.{choices}
+use Rattle.laws.proofs.Choices.{choices}
 use Rattle.view.proofs.Places.{offsets, same-tests, same-edges}
 use Rattle.view.proofs.place.set_port_size.Statement.{statement}
 use Rattle.view.proofs.place.set_port_size.Tie as tie

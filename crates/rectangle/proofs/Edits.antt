@@ -4,12 +4,12 @@ use mathlib.Core.Path.{_≡_, refl, sym, _∙_}
 use mathlib.Core.Bool.{Bool, false}
 use mathlib.Core.Logic.{_⊎_, inl, inr, ⊎-elim}
 use borrow.Author.Needs.{needs}
-use Rattle.screen.specs.Cells.{columnOf, lineOf, Inside, inside}
-use Rattle.screen.specs.Edit.{vacated, origin, editedCell}
-use Rattle.screen.specs.declared.Rect.{Rect}
-use Rattle.screen.specs.declared.Motion.{Motion}
-use Rattle.screen.specs.declared.Motion.the-variants.{Clear, Up, Down, Left, Right}
-use Rattle.screen.proofs.Tests.{tested, not-both, by-test, Decides, decides-lt, decides-le, decides-eq, decides-both, decides-as}
+use Rattle.rectangle.specs.Cells.{columnOf, lineOf, Inside, inside}
+use Rattle.rectangle.specs.Edit.{vacated, origin, editedCell}
+use Rattle.rectangle.specs.declared.Rect.{Rect}
+use Rattle.rectangle.specs.declared.Motion.{Motion}
+use Rattle.rectangle.specs.declared.Motion.the-variants.{Clear, Up, Down, Left, Right}
+use Rattle.laws.proofs.Tests.{either, fails, Decides, decides-lt, decides-le, decides-eq, decides-both, decides-as}
 
 pub decides-inside : (r : Rect) (i : ℕ) → Decides (inside r i) (Inside r i)
 unfolding inside
@@ -35,13 +35,6 @@ decides-vacated r Down i = decides-eq _ _
 decides-vacated r (Left n) i = decides-lt _ _
 decides-vacated r (Right n) i = decides-lt _ _
 
--- a fact that a test decides holds or does not
-either : {t : Bool} {P : Type 0} → Decides t P → P ⊎ (P → ⊥)
-either {t} d = ⊎-elim (λ e. inl (d .holds e)) (λ e. inr (λ p. not-both (d .passes p) e)) (tested t)
-
-fails : {t : Bool} {P : Type 0} → Decides t P → (P → ⊥) → t ≡ false
-fails {t} d no-p = ⊎-elim (λ e. absurd (no-p (d .holds e))) (λ e. e) (tested t)
-
 pub inside? : (r : Rect) (i : ℕ) → Inside r i ⊎ (Inside r i → ⊥)
 inside? r i = either (decides-inside r i)
 
@@ -60,12 +53,6 @@ module _ (r : Rect) (m : Motion) (fill : ℕ) (old : ℕ → ℕ) (i : ℕ) wher
   pub cell-moved : Inside r i → (Vacated r m i → ⊥) → editedCell r m fill old i ≡ old (origin m i)
   unfolding editedCell
   cell-moved h kept = simp (decides-inside r i .passes h, fails (decides-vacated r m i) kept)
-
-  -- a property of the fill byte and of every old byte is one of every new byte
-  pub cell-has : (P : ℕ → Type 0) → P fill → ((k : ℕ) → P (old k)) → P (editedCell r m fill old i)
-  unfolding editedCell
-  cell-has P of-fill of-old =
-      by-test P (inside r i) (λ e. by-test P (vacated r m i) (λ v. of-fill) (λ v. of-old _)) (λ e. of-old i)
 
 -- what moves to a cell of the rectangle comes from the rectangle
 pub origin-inside : (r : Rect) (m : Motion) (i : ℕ) → r .right ≤ 79 → Inside r i → (Vacated r m i → ⊥) → Inside r (origin m i)

@@ -1,24 +1,12 @@
 -- What it is for a change of the screen to keep to a rectangle. Assumes nothing.
-use Prim.Native.Nat.{ℕ, _≤_, _<_}
+use Prim.Native.Nat.{ℕ}
 use mathlib.Core.Path.{_≡_}
 use mathlib.Core.List.{List, [], _∷_}
 use lib.ListN.{length, getD}
-use Rattle.screen.specs.Cells.{Inside}
-use Rattle.screen.specs.declared.Rect.{Rect}
-use Rattle.screen.specs.declared.Edit.{Edit}
-
--- a rectangle of at least one cell that lies in another
-pub record Within (inner outer : Rect) : Type 0 where
-  pub left-in : outer .left ≤ inner .left
-  pub across : inner .left ≤ inner .right
-  pub right-in : inner .right ≤ outer .right
-  pub top-in : outer .top ≤ inner .top
-  pub down : inner .top ≤ inner .bottom
-  pub bottom-in : inner .bottom ≤ outer .bottom
-
--- two rectangles share no cell
-abbrev pub Apart : Rect → Rect → Type 0
-Apart r q = (i : ℕ) → Inside r i → Inside q i → ⊥
+use Rattle.rectangle.specs.Cells.{Inside}
+use Rattle.rectangle.specs.Rectangles.{Within}
+use Rattle.rectangle.specs.declared.Rect.{Rect}
+use Rattle.rectangle.specs.declared.Edit.{Edit}
 
 -- two screens hold the same bytes in a rectangle
 abbrev pub Agree : Rect → List ℕ → List ℕ → Type 0
@@ -34,7 +22,3 @@ pub record Local (r : Rect) (f : List ℕ → List ℕ) : Type 0 where
 abbrev pub AllWithin : Rect → List Edit → Type 0
 AllWithin r [] = Unit {0}
 AllWithin r (e ∷ es) = Within (e .rect) r × AllWithin r es
-
--- every element is a byte
-abbrev pub Bytes : List ℕ → Type 0
-Bytes s = (i : ℕ) → getD s i 0 < 256

@@ -1,11 +1,11 @@
--- `block::copy_run` meets its contract. The invariant: k bytes are copied, and nothing else is changed. Assumes nothing.
+-- `screen::copy_run` meets its contract. The invariant: k bytes are copied, and nothing else is changed. Assumes nothing.
 use Prim.Native.Nat.{_-_, _≤_}
 use mathlib.Core.Path.{refl}
 use native.Mathlib.Omega.{arith}
-use Rattle.screen.proofs.Rewrites.{none, ends}
-use Rattle.block.proofs.Copies.{Copied, one-copied}
-use Rattle.block.proofs.copy_run.Statement.{statement}
-use Rattle.block.proofs.copy_run.Tie as tie
+use Rattle.screen.specs.Rewrite.{Copied}
+use Rattle.screen.proofs.Rewrites.{none, ends, one-copied}
+use Rattle.screen.proofs.copy_run.Statement.{statement}
+use Rattle.screen.proofs.copy_run.Tie as tie
 
 abbrev Inv-loop : tie.InvT-loop
 Inv-loop source from target₀ at count k₀ target k = (k ≤ count) × Copied source from at k target₀ target

@@ -7,15 +7,16 @@ use native.Mathlib.Omega.{arith}
 use borrow.Author.Needs.{needs}
 use lib.ListN.{length, getD, List·getD-eq-default}
 use lib.Seq.{ext-getD}
-use Rattle.screen.specs.Tabulate.{length-tabulate, getD-tabulate}
-use Rattle.screen.specs.Cells.{Inside}
-use Rattle.screen.specs.Edit.{editedCell, edited, draw, drawCell}
-use Rattle.screen.specs.Local.{Within, Apart, Local, AllWithin, Bytes}
-use Rattle.screen.specs.declared.Rect.{Rect}
-use Rattle.screen.specs.declared.Edit.{Edit}
-use Rattle.screen.specs.declared.Motion.{Motion}
-use Rattle.screen.proofs.Tests.{below?}
-use Rattle.screen.proofs.Edits.{inside?, cell-outside, cell-has, cell-same}
+use Rattle.laws.specs.Tabulate.{length-tabulate, getD-tabulate}
+use Rattle.rectangle.specs.Cells.{Inside}
+use Rattle.rectangle.specs.Edit.{editedCell, edited, draw, drawCell}
+use Rattle.rectangle.specs.Rectangles.{Within, Apart}
+use Rattle.rectangle.specs.Local.{Local, AllWithin}
+use Rattle.rectangle.specs.declared.Rect.{Rect}
+use Rattle.rectangle.specs.declared.Edit.{Edit}
+use Rattle.rectangle.specs.declared.Motion.{Motion}
+use Rattle.laws.proofs.Tests.{below?}
+use Rattle.rectangle.proofs.Edits.{inside?, cell-outside, cell-same}
 
 -- an edit, cell by cell
 module _ (r : Rect) (m : Motion) (fill : ℕ) (s : List ℕ) where
@@ -29,13 +30,6 @@ module _ (r : Rect) (m : Motion) (fill : ℕ) (s : List ℕ) where
 
   edited-past : (i : ℕ) → 1920 ≤ i → getD (edited r m fill s) i 0 ≡ 0
   edited-past i h = List·getD-eq-default (edited r m fill s) 0 {n = i} (omega (arith, length-edited))
-
-  pub bytes-edited : fill < 256 → Bytes s → Bytes (edited r m fill s)
-  bytes-edited small bytes i =
-      ⊎-elim
-      (λ h. rw (edited-at i h) (cell-has r m fill (λ k. getD s k 0) i (λ b. b < 256) small bytes))
-      (λ h. rw (edited-past i h) (omega arith))
-      (below? i 1920)
 
 -- rectangles within rectangles
 pub within-inside : {r q : Rect} {i : ℕ} → Within r q → Inside r i → Inside q i
@@ -109,17 +103,6 @@ draw-local q right bottom (e ∷ es) all =
     local-then q (edited (e .rect) (e .motion) (e .fill)) (draw es)
     (edit-local (e .rect) q (e .motion) (e .fill) (all .0) right bottom)
     (draw-local q right bottom es (all .1))
-
--- every fill byte is a byte
-abbrev pub ByteFills : List Edit → Type 0
-ByteFills [] = Unit {0}
-ByteFills (e ∷ es) = (e .fill < 256) × ByteFills es
-
-pub bytes-draw : (es : List Edit) (s : List ℕ) → ByteFills es → Bytes s → Bytes (draw es s)
-unfolding draw
-bytes-draw [] s small bytes = bytes
-bytes-draw (e ∷ es) s small bytes =
-    bytes-draw es _ (small .1) (bytes-edited (e .rect) (e .motion) (e .fill) s (small .0) bytes)
 
 -- drawing over functions is drawing over lists: where old is what the cells of s hold, the one gives what the other gives
 pub draw-cells : (q : Rect) → q .right ≤ 79 → q .bottom ≤ 23 → (es : List Edit) → AllWithin q es → (s : List ℕ) (old : ℕ → ℕ)

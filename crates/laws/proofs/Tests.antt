@@ -1,11 +1,11 @@
 -- From tests to facts and back, for the proofs of every crate. Assumes nothing.
 use Prim.Native.Nat.{ℕ, zero, suc, _≤_, _<_}
 use mathlib.Core.Path.{_≡_, refl}
-use mathlib.Core.Bool.{Bool, true, false, cond, _&&_, _||_}
+use mathlib.Core.Bool.{Bool, true, false, cond, not, _&&_, _||_}
 use mathlib.Core.Logic.{_⊎_, inl, inr, ⊎-elim}
 use native.Mathlib.Omega.{arith}
 use lib.Dec.{ltb, leb, eqb}
-use borrow.Author.Tests.{ltb-true, ltb-false, leb-true, eqb-true, lt-ltb, le-ltb, le-leb, eq-eqb}
+use borrow.Author.Tests.{ltb-true, ltb-false, leb-true, eqb-true, lt-ltb, le-ltb, le-leb, eq-eqb, not-true}
 
 -- a test, with what it shows
 pub tested : (t : Bool) → (t ≡ true) ⊎ (t ≡ false)
@@ -62,6 +62,33 @@ decides-as d f g = record { holds = λ k. f (d .holds k); passes = λ k. d .pass
 pub decides-if : (t : Bool) {u w : Bool} {P Q : Type 0} → Decides u P → Decides w Q → Decides (cond t u w) ((t ≡ true → P) × (t ≡ false → Q))
 decides-if true d e = decides-as d (λ p. (λ _. p, λ k. absurd (not-both refl k))) (λ q. q .0 refl)
 decides-if false d e = decides-as e (λ p. (λ k. absurd (not-both k refl), λ _. p)) (λ q. q .1 refl)
+
+-- a fact that a test decides holds or does not
+pub either : {t : Bool} {P : Type 0} → Decides t P → P ⊎ (P → ⊥)
+either {t} d = ⊎-elim (λ e. inl (d .holds e)) (λ e. inr (λ p. not-both (d .passes p) e)) (tested t)
+
+pub fails : {t : Bool} {P : Type 0} → Decides t P → (P → ⊥) → t ≡ false
+fails {t} d no-p = ⊎-elim (λ e. absurd (no-p (d .holds e))) (λ e. e) (tested t)
+
+pub decides-not : {t : Bool} {P : Type 0} → Decides t P → Decides (not t) (P → ⊥)
+decides-not {t} d = record { holds = λ e p. not-both (d .passes p) (not-true t e); passes = λ no-p. rw (fails d no-p) }
+
+-- a flag is off
+pub decides-off : (t : Bool) → Decides (not t) (t ≡ false)
+decides-off t = record { holds = not-true t; passes = λ e. rw e }
+
+pub decides-either : {t u : Bool} {P Q : Type 0} → Decides t P → Decides u Q → Decides (t || u) (P ⊎ Q)
+decides-either {t} {u} d e = record {
+  holds = λ k. ⊎-elim (λ h. inl (d .holds h)) (λ h. inr (e .holds (rw h at k))) (tested t);
+  passes = λ k. ⊎-elim (λ p. rw (d .passes p)) (λ q. ⊎-elim (λ h. rw h) (λ h. rw h (e .passes q)) (tested t)) k;
+}
+
+-- one fact, or else the other
+pub decides-else : {t u : Bool} {P Q : Type 0} → Decides t P → Decides u Q → Decides (t || u) ((P → ⊥) → Q)
+decides-else {t} {u} d e = record {
+  holds = λ k no-p. e .holds (⊎-elim (λ h. absurd (no-p (d .holds h))) (λ h. rw h at k) (tested t));
+  passes = λ f. ⊎-elim (λ h. rw h) (λ h. rw h (e .passes (f (λ p. not-both (d .passes p) h)))) (tested t);
+}
 
 -- a is below b, or else a fact holds
 pub decides-unless : (a b : ℕ) {u : Bool} {Q : Type 0} → Decides u Q → Decides (ltb a b || u) (b ≤ a → Q)

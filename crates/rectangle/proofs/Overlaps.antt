@@ -2,12 +2,10 @@
 use Prim.Native.Nat.{ℕ, _+_, _-_, _*_, _≤_}
 use native.Mathlib.Omega.{arith}
 use borrow.Author.Needs.{needs}
-use Rattle.screen.specs.declared.Rect.{Rect}
-use Rattle.screen.specs.Cells.{Inside}
-use Rattle.screen.specs.Local.{Apart}
-use Rattle.screen.proofs.Tests.{Decides, decides-le, decides-both, decides-as}
-use Rattle.port.specs.Valid.{Legal}
-use Rattle.slots.specs.Panes.{sharesCell}
+use Rattle.rectangle.specs.declared.Rect.{Rect}
+use Rattle.rectangle.specs.Cells.{Inside}
+use Rattle.rectangle.specs.Rectangles.{Apart, Legal, sharesCell}
+use Rattle.laws.proofs.Tests.{Decides, decides-le, decides-both, decides-as}
 
 -- what the test compares
 pub record Overlap (r q : Rect) : Type 0 where

@@ -1,0 +1,3 @@
+-- For the proofs of every crate. `Tests`: from a test to a fact and back. `Choices`: a chain of choices, as code and definitions have it.
+pub mod Tests
+pub mod Choices

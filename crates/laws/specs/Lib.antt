@@ -1,0 +1,2 @@
+-- Lists given by a function from the place to the element.
+pub mod Tabulate

@@ -1,5 +1,5 @@
--- A table agrees with the range rule: a test of each of its entries, which antt computes, and the law that makes the rule of it. No number of the table stands here.
--- Assumes nothing.
+-- A table agrees with the range rule: a test of each of its entries, and the law that makes the rule of it. No number of the table stands here.
+-- antt computes the test once, in the proof of `table_copy`; other functions have the agreement from that one's contract. Assumes nothing.
 use Prim.Native.Nat.{ℕ, zero, suc, _+_, _*_, _/_, _%_, _<_}
 use mathlib.Core.Path.{_≡_, refl, ap, _∙_, subst, sym}
 use mathlib.Core.Bool.{Bool, true, false, cond, _&&_}
@@ -61,26 +61,10 @@ agrees table len test = record { entry = at-entry }
 pub looked-up : (table : List ℕ) (mode : Mode) (start code : ℕ) → Agrees table → start ≡ 256 * rowOf mode → code < 256 → getD table (start + code) 0 ≡ storedByte mode code
 looked-up table mode start code a e small = rw e (a .entry mode code small)
 
--- the same in an arm for one mode
-pub looked-up-in : (table : List ℕ) (mode m : Mode) (entry code : ℕ) → mode ≡ m → entry ≡ 256 * rowOf m + code → code < 256 → Agrees table → getD table entry 0 ≡ storedByte mode code
-looked-up-in table mode m entry code e at small a = ap (λ (k : ℕ). getD table k 0) at ∙ a .entry m code small ∙ ap (λ (x : Mode). storedByte x code) (sym e)
+-- the stored byte in an arm, where the mode is known
+pub in-arm : (mode m : Mode) (code byte : ℕ) → mode ≡ m → byte ≡ storedByte m code → byte ≡ storedByte mode code
+in-arm mode m code byte e stored = rw e stored
 
 -- a mode has one of the three rows
 pub row-below : (mode : Mode) → rowOf mode < 3
 row-below mode = row-mode mode .1
-
-module _ {mode : Mode} where
-  pub start-normal : mode ≡ Normal → 0 ≡ 256 * rowOf mode
-  unfolding rowOf
-  start-normal e = rw e
-
-  pub start-inverse : mode ≡ Inverse → 256 ≡ 256 * rowOf mode
-  unfolding rowOf
-  start-inverse e = rw e
-
-  pub start-mousetext : mode ≡ MouseText → 512 ≡ 256 * rowOf mode
-  unfolding rowOf
-  start-mousetext e = rw e
-
--- where a mode's row starts
-pub ruleset starts = (start-normal, start-inverse, start-mousetext)

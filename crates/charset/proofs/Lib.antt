@@ -1,2 +1,2 @@
--- `Agreement` shows once, by a test over the whole table, that it agrees with the range rule.
+-- `Agreement`: a test over a whole table shows that it agrees with the range rule.
 pub mod Agreement

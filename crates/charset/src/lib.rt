@@ -14,7 +14,7 @@ pub enum Mode {
     MouseText,
 }
 
-// The table, for a caller to hold while it prints: a constant that is indexed in place is copied for each byte.
+// The table, for a caller to hold while it prints: a constant is made anew wherever it is read.
 pub fn table_copy() -> [u8; 768]
     ensures { λ r. ⌜ Agrees r ⌝ }
 {
@@ -41,14 +41,14 @@ pub fn stored_byte(table: &[u8; 768], mode: Mode, code: u8) -> u8
     table[entry]
 }
 
-// The same entry with no table at hand: for a single code this is cheaper than a table that is made for it.
+// The same for a code that comes alone, with no table at hand.
+// An arm for each mode: where the compiler knows the mode, it makes no entry past that mode's row, so in normal mode a third of the table.
 pub fn stored_alone(mode: Mode, code: u8) -> u8
     ensures { λ r. ⌜ r ≡ storedByte mode code ⌝ }
 {
-    let entry = code as usize;
     match mode {
-        Mode::Normal => STORED[0 + entry],
-        Mode::Inverse => STORED[256 + entry],
-        Mode::MouseText => STORED[512 + entry],
+        Mode::Normal => stored_byte(&table_copy(), Mode::Normal, code),
+        Mode::Inverse => stored_byte(&table_copy(), Mode::Inverse, code),
+        Mode::MouseText => stored_byte(&table_copy(), Mode::MouseText, code),
     }
 }

@@ -148,7 +148,7 @@ pub fn carry_stream(screen: &mut [u8], p: Port, bytes: &[u8]) -> Progress
     Progress { port, bells }
 }
 
-// A stream of one byte. A printing code needs no table made for it.
+// A stream of one byte. A printing code needs no whole table made for it.
 pub fn carry_single(screen: &mut [u8], p: Port, b: u8) -> Progress
     requires { ⌜ Valid p × (length (now screen) ≡ 1920) ⌝ }
     ensures { λ r. ⌜ Carried (stream p (b ∷ [])) (r .port) (r .bells) (now (screen .entry)) (now (screen .exit)) ⌝ }

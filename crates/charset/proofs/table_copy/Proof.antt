@@ -1,4 +1,4 @@
--- `charset::table_copy` meets its contract: the test of all 768 entries, which antt computes here. Assumes nothing.
+-- `charset::table_copy` meets its contract: the test of all 768 entries, which antt computes here and nowhere else. Assumes nothing.
 use mathlib.Core.Path.{refl}
 use Rattle.charset.specs.Stored.{inRange, storedSymbol, storedCapital, storedHigh, storedByte}
 use Rattle.charset.proofs.Agreement.{agrees}

@@ -71,11 +71,7 @@ fn make(m: Multiplexer, screen: &mut [u8], script: &[u8], call: Call, answers: &
         &mut answers[5..cells],
     );
     let status = answer.status;
-    put_head(
-        answers,
-        multiplexer::status_number(status),
-        answer.count as u64,
-    );
+    put_head(answers, reply::status_number(status), answer.count as u64);
     copy(screen, &mut answers[cells..]);
     let multiplexer = answer.multiplexer;
     Made {

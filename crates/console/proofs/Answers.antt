@@ -3,34 +3,36 @@ use Prim.Native.Nat.{ℕ}
 use mathlib.Core.Path.{_≡_, refl, ap, _∙_}
 use mathlib.Core.Bool.{Bool, true, false, cond}
 use mathlib.Core.List.{List}
-use lib.Dec.{ltb, eqb}
+use lib.Dec.{ltb}
 use lib.ListN.{length}
-use borrow.Author.Tests.{eq-eqb}
 use Rattle.laws.proofs.Tests.{by-test}
+use Rattle.screen.specs.Size.{isScreen}
 use Rattle.block.specs.Block.{blockLength, blockFits}
 use Rattle.port.specs.declared.Port.{Port}
 use Rattle.port.specs.Valid.{valid, Valid}
 use Rattle.port.proofs.Validity.{decides-valid}
-use Rattle.console.specs.declared.Status.{Status}
-use Rattle.console.specs.declared.Status.the-variants.{Done, ScreenLength, InvalidPort, BlockTooShort, BlockMismatch}
-use Rattle.console.specs.Calls.{Reply, refusal, written, blockReturned, blockRestored, judged, writeCall, returnCall, restoreCall}
-use Rattle.console.specs.Theorems.{ChangesNothing}
+use Rattle.reply.specs.declared.Status.the-variants.{Done, ScreenLength, Invalid, BlockTooShort, BlockMismatch}
+use Rattle.reply.specs.Reply.{refusal}
+use Rattle.calls.specs.Calls.{PortReply, PortCall, written, blockReturned, blockRestored}
+use Rattle.calls.specs.Screens.{onScreen}
+use Rattle.calls.proofs.Screens.{on-screen, off-screen}
+use Rattle.calls.proofs.Refusals.{Unchanged, written-refuses, returned-refuses, restored-refuses}
+use Rattle.console.specs.Calls.{onValidPort, judged, writeCall, returnCall, restoreCall}
 
-module _ (call : Port → List ℕ → List ℕ → Reply) (p : Port) (s block : List ℕ) where
+module _ (call : PortCall) (p : Port) (s block : List ℕ) where
   -- a valid port and 1,920 cells are never refused with 1 or 2; another length is with 1, and then another port with 2
   pub accepted : Valid p → length s ≡ 1920 → judged call p s block ≡ call p s block
-  unfolding judged
-  accepted v len = simp (eq-eqb _ _ len, decides-valid p .passes v)
+  unfolding onValidPort
+  accepted v len = on-screen p s block _ len ∙ rw (decides-valid p .passes v)
 
-  pub refused-length : eqb (length s) 1920 ≡ false → judged call p s block ≡ refusal ScreenLength p s block
-  unfolding judged
-  refused-length e = simp e
+  pub refused-length : isScreen (length s) ≡ false → judged call p s block ≡ refusal ScreenLength p s block
+  refused-length e = off-screen p s block _ e
 
-  pub refused-port : eqb (length s) 1920 ≡ true → valid p ≡ false → judged call p s block ≡ refusal InvalidPort p s block
-  unfolding judged
-  refused-port e k = simp (e, k)
+  pub refused-port : length s ≡ 1920 → valid p ≡ false → judged call p s block ≡ refusal Invalid p s block
+  unfolding onValidPort
+  refused-port len k = on-screen p s block _ len ∙ rw k
 
-status-of : (t : Bool) (a b : Reply) → cond t a b .status ≡ cond t (a .status) (b .status)
+status-of : (t : Bool) (a b : PortReply) → cond t a b .status ≡ cond t (a .status) (b .status)
 status-of true a b = refl
 status-of false a b = refl
 
@@ -38,40 +40,27 @@ status-of false a b = refl
 module _ (p : Port) (s block : List ℕ) (v : Valid p) (len : length s ≡ 1920) where
   pub write-answers : writeCall p s block .status ≡ Done
   unfolding written
-  write-answers = ap (λ (r : Reply). r .status) (accepted written p s block v len)
+  write-answers = ap (λ (r : PortReply). r .status) (accepted written p s block v len)
 
   pub return-answers : returnCall p s block .status ≡ cond (ltb (length block) (blockLength (p .view .viewport))) BlockTooShort Done
   unfolding blockReturned
-  return-answers = ap (λ (r : Reply). r .status) (accepted blockReturned p s block v len) ∙ status-of (ltb (length block) (blockLength (p .view .viewport))) _ _
+  return-answers = ap (λ (r : PortReply). r .status) (accepted blockReturned p s block v len) ∙ status-of (ltb (length block) (blockLength (p .view .viewport))) _ _
 
   pub restore-answers : restoreCall p s block .status ≡ cond (blockFits (p .view .viewport) block) Done BlockMismatch
   unfolding blockRestored
-  restore-answers = ap (λ (r : Reply). r .status) (accepted blockRestored p s block v len) ∙ status-of (blockFits (p .view .viewport) block) _ _
+  restore-answers = ap (λ (r : PortReply). r .status) (accepted blockRestored p s block v len) ∙ status-of (blockFits (p .view .viewport) block) _ _
 
 -- a refused call changes nothing and counts 0
-refusing : (status : Status) (p : Port) (s block : List ℕ) → ChangesNothing p s block (refusal status p s block)
-refusing status p s block e = refl
-
-pub judged-refuses : (call : Port → List ℕ → List ℕ → Reply) (p : Port) (s block : List ℕ) → ChangesNothing p s block (call p s block) → ChangesNothing p s block (judged call p s block)
-unfolding judged
-judged-refuses call p s block h =
-    by-test (ChangesNothing p s block) (eqb (length s) 1920)
-    (λ _. by-test (ChangesNothing p s block) (valid p) (λ _. h) (λ _. refusing InvalidPort p s block))
-    (λ _. refusing ScreenLength p s block)
-
 module _ (p : Port) (s block : List ℕ) where
-  pub write-refuses : ChangesNothing p s block (writeCall p s block)
-  unfolding written
-  write-refuses = judged-refuses written p s block (λ e. absurd (e refl))
+  judged-refuses : (call : PortCall) → Unchanged p s block (call p s block) → Unchanged p s block (judged call p s block)
+  unfolding onScreen onValidPort
+  judged-refuses call h = by-test (Unchanged p s block) (isScreen (length s)) (λ _. by-test (Unchanged p s block) (valid p) (λ _. h) (λ _ e. refl)) (λ _ e. refl)
 
-  pub return-refuses : ChangesNothing p s block (returnCall p s block)
-  unfolding blockReturned
-  return-refuses =
-      judged-refuses blockReturned p s block
-      (by-test (ChangesNothing p s block) (ltb (length block) (blockLength (p .view .viewport))) (λ _. refusing BlockTooShort p s block) (λ _ e. absurd (e refl)))
+  pub write-refuses : Unchanged p s block (writeCall p s block)
+  write-refuses = judged-refuses written (written-refuses p s block)
 
-  pub restore-refuses : ChangesNothing p s block (restoreCall p s block)
-  unfolding blockRestored
-  restore-refuses =
-      judged-refuses blockRestored p s block
-      (by-test (ChangesNothing p s block) (blockFits (p .view .viewport) block) (λ _ e. absurd (e refl)) (λ _. refusing BlockMismatch p s block))
+  pub return-refuses : Unchanged p s block (returnCall p s block)
+  return-refuses = judged-refuses blockReturned (returned-refuses p s block)
+
+  pub restore-refuses : Unchanged p s block (restoreCall p s block)
+  restore-refuses = judged-refuses blockRestored (restored-refuses p s block)

@@ -1,49 +1,20 @@
 // The plain console of paper 01: what a host calls. No public function has a `requires`: every input, refused or not, has its equation.
-
-use block::block_fits;
-use block::block_length;
-use block::copy_in;
-use block::copy_out;
+// A call is judged here and made in `calls`.
 use block::row_cells;
-use executor::carry_single;
-use executor::carry_stream;
+use calls::Answer;
+use calls::answer_of;
 use port::Port;
 use port::state::fresh_port;
 use port::valid::valid_port;
 use rectangle::Rect;
 use rectangle::height;
+use reply::Status;
+use screen::is_screen;
 ghost use mathlib.Core.Path.{_≡_};
 ghost use mathlib.Core.List.{[], _∷_};
-ghost use Rattle.console.specs.Calls.{numberOf, freshConsole, writeCall, returnCall, restoreCall, rowCall, answerOf, judgement, Replies, RepliesInPlace};
-
-// Paper 01, 'What comes back', for the plain calls. Other crates have statuses of their own for the other numbers.
-pub enum Status {
-    Done,
-    ScreenLength,
-    InvalidPort,
-    BlockTooShort,
-    BlockMismatch,
-}
-
-// What a call hands back: the status, the port, and the count of bells or of bytes.
-pub struct Answer {
-    pub status: Status,
-    pub port: Port,
-    pub count: usize,
-}
-
-// The paper's number.
-pub fn status_number(status: Status) -> u8
-    ensures { λ r. ⌜ r ≡ numberOf status ⌝ }
-{
-    match status {
-        Status::Done => 0,
-        Status::ScreenLength => 1,
-        Status::InvalidPort => 2,
-        Status::BlockTooShort => 9,
-        Status::BlockMismatch => 10,
-    }
-}
+ghost use Rattle.reply.specs.Reply.{Replies};
+ghost use Rattle.calls.specs.Calls.{answerOf};
+ghost use Rattle.console.specs.Calls.{freshConsole, writeCall, returnCall, restoreCall, rowCall, portJudgement, judgement};
 
 // A fresh port of the whole screen.
 pub fn fresh_console() -> Port
@@ -63,65 +34,45 @@ enum Judged {
     Refused(Status),
 }
 
-// 1 by the screen's length, then 2 by the port.
-fn judge(p: Port, length: usize) -> Judged
-    ensures { λ r. ⌜ r ≡ judgement p length ⌝ }
+// Refusal 2.
+fn judge_port(p: Port) -> Judged
+    ensures { λ r. ⌜ r ≡ portJudgement p ⌝ }
 {
-    if length != 1920 {
-        return Judged::Refused(Status::ScreenLength);
-    }
     if valid_port(p) {
         return Judged::Accepted;
     }
-    Judged::Refused(Status::InvalidPort)
+    Judged::Refused(Status::Invalid)
 }
 
-// A refusal hands back the port as it came, and a count of 0.
-fn refused(status: Status, port: Port) -> Answer
-    ensures { λ r. ⌜ r ≡ answerOf status port 0 ⌝ }
+// Refusal 1 before it, by the screen's length.
+fn judge(p: Port, length: usize) -> Judged
+    ensures { λ r. ⌜ r ≡ judgement p length ⌝ }
 {
-    Answer {
-        status,
-        port,
-        count: 0,
+    if is_screen(length) {
+        return judge_port(p);
     }
-}
-
-fn done(port: Port, count: usize) -> Answer
-    ensures { λ r. ⌜ r ≡ answerOf Status.Done port count ⌝ }
-{
-    Answer {
-        status: Status::Done,
-        port,
-        count,
-    }
+    Judged::Refused(Status::ScreenLength)
 }
 
 // Obeys a stream: each byte does what paper 01's tables say. The count is of the bells that it rang.
 pub fn write(p: Port, screen: &mut [u8], bytes: &[u8]) -> Answer
-    ensures { λ r. ⌜ Replies (writeCall p (now (screen .entry)) (now (bytes .entry))) r (now (screen .exit)) (now (bytes .entry)) ⌝ }
+    ensures { λ r. ⌜ Replies (writeCall p (now (screen .entry)) (now (bytes .entry))) (r .status) (r .port) (r .count) (now (screen .exit)) (now (bytes .entry)) ⌝ }
 {
     let judged = judge(p, screen.len());
     match judged {
-        Judged::Refused(status) => refused(status, p),
-        Judged::Accepted => {
-            let written = carry_stream(screen, p, bytes);
-            done(written.port, written.bells)
-        }
+        Judged::Refused(status) => answer_of(status, p, 0),
+        Judged::Accepted => calls::write(p, screen, bytes),
     }
 }
 
 // A write of one byte.
 pub fn write_byte(p: Port, screen: &mut [u8], byte: u8) -> Answer
-    ensures { λ r. ⌜ Replies (writeCall p (now (screen .entry)) (byte ∷ [])) r (now (screen .exit)) (byte ∷ []) ⌝ }
+    ensures { λ r. ⌜ Replies (writeCall p (now (screen .entry)) (byte ∷ [])) (r .status) (r .port) (r .count) (now (screen .exit)) (byte ∷ []) ⌝ }
 {
     let judged = judge(p, screen.len());
     match judged {
-        Judged::Refused(status) => refused(status, p),
-        Judged::Accepted => {
-            let written = carry_single(screen, p, byte);
-            done(written.port, written.bells)
-        }
+        Judged::Refused(status) => answer_of(status, p, 0),
+        Judged::Accepted => calls::write_byte(p, screen, byte),
     }
 }
 
@@ -149,7 +100,7 @@ fn without_port(answer: Answer) -> ByteAnswer
 
 // The one-byte call, for hosts that keep one port for a session: the port is changed where it lies.
 pub fn put_byte(port: &mut Port, screen: &mut [u8], byte: u8) -> ByteAnswer
-    ensures { λ r. ⌜ RepliesInPlace (writeCall (now (port .entry)) (now (screen .entry)) (byte ∷ [])) r (now (port .exit)) (now (screen .exit)) ⌝ }
+    ensures { λ r. ⌜ Replies (writeCall (now (port .entry)) (now (screen .entry)) (byte ∷ [])) (r .status) (now (port .exit)) (r .count) (now (screen .exit)) (byte ∷ []) ⌝ }
 {
     let answer = write_byte(*port, screen, byte);
     *port = port_of(answer);
@@ -160,16 +111,12 @@ fn with_port(answer: ByteAnswer, port: Port) -> Answer
     ensures { λ r. ⌜ r ≡ answerOf (answer .status) port (answer .count) ⌝ }
 {
     let status = answer.status;
-    Answer {
-        status,
-        port,
-        count: answer.count,
-    }
+    answer_of(status, port, answer.count)
 }
 
 // The one-byte call on a port in a local: the same by value, for callers that keep no reference.
 pub fn put_byte_by_value(p: Port, screen: &mut [u8], byte: u8) -> Answer
-    ensures { λ r. ⌜ Replies (writeCall p (now (screen .entry)) (byte ∷ [])) r (now (screen .exit)) (byte ∷ []) ⌝ }
+    ensures { λ r. ⌜ Replies (writeCall p (now (screen .entry)) (byte ∷ [])) (r .status) (r .port) (r .count) (now (screen .exit)) (byte ∷ []) ⌝ }
 {
     let mut port = p;
     let answer = put_byte(&mut port, screen, byte);
@@ -178,38 +125,23 @@ pub fn put_byte_by_value(p: Port, screen: &mut [u8], byte: u8) -> Answer
 
 // Hands the viewport's text out: the block fills the front of the lent one. The count is of its bytes.
 pub fn return_block(p: Port, screen: &[u8], block: &mut [u8]) -> Answer
-    ensures { λ r. ⌜ Replies (returnCall p (now (screen .entry)) (now (block .entry))) r (now (screen .entry)) (now (block .exit)) ⌝ }
+    ensures { λ r. ⌜ Replies (returnCall p (now (screen .entry)) (now (block .entry))) (r .status) (r .port) (r .count) (now (screen .entry)) (now (block .exit)) ⌝ }
 {
     let judged = judge(p, screen.len());
     match judged {
-        Judged::Refused(status) => refused(status, p),
-        Judged::Accepted => {
-            let rect = p.view.viewport;
-            let size = block_length(rect);
-            if block.len() < size {
-                return refused(Status::BlockTooShort, p);
-            }
-            copy_out(screen, rect, block);
-            done(p, size)
-        }
+        Judged::Refused(status) => answer_of(status, p, 0),
+        Judged::Accepted => calls::return_block(p, screen, block),
     }
 }
 
 // Puts a block's text into the viewport. The cursor stays.
 pub fn restore_block(p: Port, screen: &mut [u8], block: &[u8]) -> Answer
-    ensures { λ r. ⌜ Replies (restoreCall p (now (screen .entry)) (now (block .entry))) r (now (screen .exit)) (now (block .entry)) ⌝ }
+    ensures { λ r. ⌜ Replies (restoreCall p (now (screen .entry)) (now (block .entry))) (r .status) (r .port) (r .count) (now (screen .exit)) (now (block .entry)) ⌝ }
 {
     let judged = judge(p, screen.len());
     match judged {
-        Judged::Refused(status) => refused(status, p),
-        Judged::Accepted => {
-            let rect = p.view.viewport;
-            if block_fits(rect, block) {
-                copy_in(screen, rect, block);
-                return done(p, 0);
-            }
-            refused(Status::BlockMismatch, p)
-        }
+        Judged::Refused(status) => answer_of(status, p, 0),
+        Judged::Accepted => calls::restore_block(p, screen, block),
     }
 }
 

@@ -7,7 +7,7 @@ use mathlib.Core.List.{List, [], _∷_}
 use native.Mathlib.Omega.{arith}
 use lib.Dec.{eqb}
 use lib.ListN.{length, getD}
-use borrow.Author.Tests.{eqb-true, eq-eqb}
+use borrow.Author.Tests.{eqb-true}
 use Rattle.rectangle.specs.declared.Rect.{Rect}
 use Rattle.rectangle.specs.declared.Edit.{Edit}
 use Rattle.rectangle.specs.Edit.{draw, drawCell}
@@ -17,19 +17,16 @@ use Rattle.rectangle.proofs.Local.{draw-cells}
 use Rattle.port.specs.declared.View.{View}
 use Rattle.port.specs.declared.Port.{Port}
 use Rattle.rectangle.specs.Rectangles.{wholeScreen}
-use Rattle.port.specs.Valid.{valid, Valid}
+use Rattle.port.specs.Valid.{Valid}
 use Rattle.port.specs.Step.{Outcome}
 use Rattle.port.specs.Stream.{stream}
 use Rattle.port.specs.Keeps.{KeepsHome}
-use Rattle.port.proofs.Validity.{decides-valid, fresh-valid}
+use Rattle.port.proofs.Validity.{fresh-valid}
 use Rattle.port.proofs.Streams.{keeps-stream, stream-local}
-use Rattle.console.specs.Calls.{Reply, freshConsole, written, judged, writeCall}
+use Rattle.calls.specs.Calls.{PortReply, written}
+use Rattle.console.specs.Calls.{freshConsole, writeCall}
+use Rattle.console.proofs.Answers.{accepted}
 use Rattle.examples.specs.Example.{Cell, Example, blankScreen, before, after, named, Shows, Holds, AllHold}
-
--- a write to a valid port and 1,920 cells is not refused
-accepted : (p : Port) (s bytes : List ℕ) → Valid p → length s ≡ 1920 → writeCall p s bytes ≡ written p s bytes
-unfolding judged
-accepted p s bytes v len = simp (eq-eqb _ _ len, decides-valid p .passes v)
 
 -- a test passes at each number below n
 abbrev everyBelow : ℕ → (ℕ → Bool) → Bool
@@ -92,8 +89,8 @@ blank-at k h = getD-tabulate 1920 _ k h
 holds : (e : Example) → passes e ≡ true → Holds e
 unfolding written
 holds e test =
-    subst (λ (r : Reply). Shows e r (after e)) (sym scene-is)
-    (subst (λ (r : Reply). Shows e (written freshConsole blankScreen (e .scene)) r) (sym shown-is) shows)
+    subst (λ (r : PortReply). Shows e r (after e)) (sym scene-is)
+    (subst (λ (r : PortReply). Shows e (written freshConsole blankScreen (e .scene)) r) (sym shown-is) shows)
   where
     scene-kept : KeepsHome freshConsole (setUp e)
     scene-kept = keeps-stream freshConsole fresh (e .scene)
@@ -105,10 +102,10 @@ holds e test =
     scene-size = stream-local freshConsole fresh (e .scene) .len blankScreen blank-size
 
     scene-is : before e ≡ written freshConsole blankScreen (e .scene)
-    scene-is = accepted freshConsole blankScreen (e .scene) fresh blank-size
+    scene-is = accepted written freshConsole blankScreen (e .scene) fresh blank-size
 
     shown-is : after e ≡ written (setUp e .port) scene-screen (e .bytes)
-    shown-is = ap (λ (r : Reply). writeCall (r .port) (r .screen) (e .bytes)) scene-is ∙ accepted (setUp e .port) scene-screen (e .bytes) (scene-kept .valid) scene-size
+    shown-is = ap (λ (r : PortReply). writeCall (r .state) (r .screen) (e .bytes)) scene-is ∙ accepted written (setUp e .port) scene-screen (e .bytes) (scene-kept .valid) scene-size
 
     cell-at : (i : ℕ) → i < 1920 → getD scene-screen i 0 ≡ heldCell e i
     cell-at i h = draw-cells wholeScreen (omega arith) (omega arith) (setUp e .edits) (scene-kept .edits) blankScreen (λ _. 0xa0) blank-at i h

@@ -7,8 +7,9 @@ use lib.Dec.{eqb}
 use lib.ListN.{length, getD}
 use Rattle.rectangle.specs.declared.Rect.{Rect}
 use Rattle.laws.specs.Tabulate.{tabulate}
-use Rattle.console.specs.declared.Status.the-variants.{Done}
-use Rattle.console.specs.Calls.{Reply, freshConsole, writeCall}
+use Rattle.reply.specs.declared.Status.the-variants.{Done}
+use Rattle.calls.specs.Calls.{PortReply}
+use Rattle.console.specs.Calls.{freshConsole, writeCall}
 
 -- a byte on the screen
 pub record Cell : Type 0 where
@@ -31,11 +32,11 @@ unfoldable pub blankScreen : List ℕ
 blankScreen = tabulate 1920 (λ _. 0xa0)
 
 -- before the example's bytes, and after them
-abbrev pub before : Example → Reply
+abbrev pub before : Example → PortReply
 before e = writeCall freshConsole blankScreen (e .scene)
 
-abbrev pub after : Example → Reply
-after e = writeCall (before e .port) (before e .screen) (e .bytes)
+abbrev pub after : Example → PortReply
+after e = writeCall (before e .state) (before e .screen) (e .bytes)
 
 -- the byte that cell i is named to hold, or else the one that it held
 abbrev pub named : List Cell → ℕ → ℕ → ℕ
@@ -43,14 +44,14 @@ named [] i held = held
 named (c ∷ cs) i held = cond (eqb i (80 * c .line + c .column)) (c .byte) (named cs i held)
 
 -- what the example says of the replies to the scene and to its own bytes
-pub record Shows (e : Example) (scene shown : Reply) : Type 0 where
+pub record Shows (e : Example) (scene shown : PortReply) : Type 0 where
   pub status : shown .status ≡ Done
   pub size : length (shown .screen) ≡ 1920
   pub cells : (i : ℕ) → i < 1920 → getD (shown .screen) i 0 ≡ named (e .cells) i (getD (scene .screen) i 0)
-  pub viewport : shown .port .view .viewport ≡ e .viewport
-  pub column : shown .port .view .column ≡ e .column
-  pub line : shown .port .view .line ≡ e .line
-  pub bells : shown .count ≡ e .bells
+  pub viewport : shown .state .view .viewport ≡ e .viewport
+  pub column : shown .state .view .column ≡ e .column
+  pub line : shown .state .view .line ≡ e .line
+  pub bells : shown .result ≡ e .bells
 
 abbrev pub Holds : Example → Type 0
 Holds e = Shows e (before e) (after e)

@@ -4,26 +4,28 @@ use native.Mathlib.Omega.{arith}
 use mathlib.Core.Path.{_≡_, refl, sym, _∙_, subst}
 use mathlib.Core.Logic.{⊎-elim}
 use mathlib.Core.List.{List, [], _∷_}
-use lib.Dec.{ltb, eqb}
+use lib.Dec.{leb}
 use lib.ListN.{length}
-use borrow.Author.Tests.{eqb-true}
+use Rattle.laws.proofs.Tests.{tested, not-both, below?, Decides, decides-le, decides-lt, decides-eq, decides-both, decides-as}
 use Rattle.rectangle.specs.declared.Rect.{Rect}
-use Rattle.laws.proofs.Tests.{tested, not-both, below?, by-test, Decides, decides-lt, decides-eq, decides-both, decides-as}
-use Rattle.block.specs.Block.{blockLength, blockFits}
-use Rattle.port.specs.declared.Port.{Port}
 use Rattle.rectangle.proofs.Rectangles.{decides-legal}
-use Rattle.console.specs.Calls as console
+use Rattle.screen.proofs.Sizes.{decides-screen}
+use Rattle.block.specs.Block.{blockLength, blockFits}
+use Rattle.reply.specs.declared.Status.{Status}
+use Rattle.reply.specs.declared.Status.the-variants.{ScreenLength, Invalid, ClientZero, PaneIllegal, ClientTaken, PaneShared, Full, NotOpen, BlockTooShort, BlockMismatch}
+use Rattle.calls.specs.Calls.{PortReply, PortCall, written, blockReturned, blockRestored}
+use Rattle.calls.specs.Screens.{onScreen}
 use Rattle.slots.specs.declared.Multiplexer.{Multiplexer}
-use Rattle.multiplexer.specs.declared.Status.{Status}
-use Rattle.multiplexer.specs.declared.Status.the-variants.{ScreenLength, Invalid, ClientZero, PaneIllegal, ClientTaken, PaneShared, Full, NotOpen, BlockTooShort, BlockMismatch}
 use Rattle.slots.specs.State.{slotAt, Open, Free, Closed, slotOf}
 use Rattle.slots.specs.Valid.{ValidMultiplexer}
-use Rattle.multiplexer.specs.Calls.{numberOf, statusOf, Reply, onClient, writeCall, returnCall, restoreCall, openStatus, openCall, closeCall}
 use Rattle.slots.proofs.Validity.{decides-multiplexer}
 use Rattle.slots.proofs.Slots.{decides-client, slot-client, slot-found, slot-open}
-use Rattle.multiplexer.proofs.Opening.{decides-pane-shared, opens, opens-done}
+use Rattle.multiplexer.specs.Located.{clientSlot, freeSlotFor, claimSlot}
+use Rattle.multiplexer.specs.Calls.{MultiplexerReply, onSlot, relayed, onClient, writeCall, returnCall, restoreCall, opened, openCall, closed, closeCall}
+use Rattle.multiplexer.proofs.Claims.{decides-pane-shared}
+use Rattle.multiplexer.proofs.Replying.{slotStatus}
 use Rattle.isolation.specs.Laws.{viewport, Fits, Applies, Exactly, Statuses, ValidStatuses, GoesTo, SlotStatuses}
-use Rattle.isolation.proofs.Rules.{First, spared, refused-if, refused-unless, answers-first}
+use Rattle.isolation.proofs.Rules.{First, spared, refused-if, refused-unless, refused-not, answers-first}
 use Rattle.isolation.proofs.Rules.First.{none}
 
 decides-fits : (r : Rect) (block : List ℕ) → Decides (blockFits r block) (Fits r block)
@@ -31,15 +33,17 @@ unfolding blockFits
 decides-fits r block =
     decides-as (decides-both (decides-eq _ _) (decides-both (decides-eq _ _) (decides-eq _ _))) (λ k. record { size = k .0; width = k .1 .0; height = k .1 .1 }) (λ h. (h .size, (h .width, h .height)))
 
-decides-free : (m : Multiplexer) → Decides (ltb (slotOf m 0) 4) ((i : ℕ) × Free m i)
-decides-free m = decides-as (decides-lt (slotOf m 0) 4) (λ h. (slotOf m 0, (h, slot-client m 0 h))) (λ k. slot-found m 0 (k .0) (k .1 .0) (k .1 .1))
+decides-full : (m : Multiplexer) → Decides (leb 4 (slotOf m 0)) ((i : ℕ) → Free m i → ⊥)
+decides-full m =
+    decides-as (decides-le 4 (slotOf m 0)) (λ h i free. let room = slot-found m 0 i (free .0) (free .1) in omega arith)
+    (λ full. ⊎-elim (λ h. absurd (full (slotOf m 0) (h, slot-client m 0 h))) (λ h. h) (below? (slotOf m 0) 4))
 
--- the status of a reply, and of a console's
-abbrev replied : Reply → Status
+-- the status of a reply
+abbrev replied : MultiplexerReply → Status
 replied x = x .status
 
-abbrev heard : console.Reply → Status
-heard x = statusOf (x .status)
+abbrev port-replied : PortReply → Status
+port-replied x = x .status
 
 module _ (m : Multiplexer) (s : List ℕ) (n : ℕ) (r : Rect) (block : List ℕ) where
   -- 9 and 10 are of the client's slot, which is one
@@ -54,61 +58,62 @@ module _ (m : Multiplexer) (s : List ℕ) (n : ℕ) (r : Rect) (block : List ℕ
     mismatched = of-slot (λ q. Fits q block → ⊥)
 
   -- ---- the five calls
-  -- a call on a client's port: 1, 2, 8, and then what the console's call gives
-  client-first : (call : Port → List ℕ → List ℕ → console.Reply) {xs : List Status}
-      → ((i : ℕ) → GoesTo m s n i → First (Applies m s n r block) (heard (call (slotAt m i .port) s block)) xs)
-      → First (Applies m s n r block) (onClient call m s n block .status) (ScreenLength ∷ Invalid ∷ NotOpen ∷ xs)
-  unfolding onClient
-  client-first call rest =
-      refused-unless replied (decides-eq (length s) 1920) (λ k. k) (λ p k. k p) refl λ l.
-      refused-unless replied (decides-multiplexer m) (λ k. k) (λ p k. k p) refl λ v.
-      refused-unless replied (decides-client m n) (λ k i o e. k (i, o, e)) (λ k closed. closed (k .0) (k .1) (k .2)) refl λ k.
-      rw (slot-open m v (k .0) n (k .1) (k .2)) (rest (k .0) (record { valid = v; len = l; is-open = k .1; client = k .2 }))
+  -- the slot of an open client: 2, 8, and then what the reply there gives
+  client-first : (s′ block′ : List ℕ) (reply : ℕ → MultiplexerReply) {xs : List Status}
+      → (ValidMultiplexer m → (i : ℕ) → Open m i → slotAt m i .client ≡ n → First (Applies m s n r block) (reply i .status) xs)
+      → First (Applies m s n r block) (onSlot m s′ block′ (clientSlot m n) reply .status) (Invalid ∷ NotOpen ∷ xs)
+  unfolding clientSlot onSlot
+  client-first s′ block′ reply rest =
+      refused-not (slotStatus m s′ block′ reply) (decides-multiplexer m) (λ k. k) (λ p k. k p) refl λ v.
+      refused-not (slotStatus m s′ block′ reply) (decides-client m n) (λ k i o e. k (i, o, e)) (λ k closed. closed (k .0) (k .1) (k .2)) refl λ k.
+      rw (slot-open m v (k .0) n (k .1) (k .2)) (rest v (k .0) (k .1) (k .2))
+
+  -- a call that takes a screen: 1 before the rest
+  screen-first : (block′ : List ℕ) (reply : MultiplexerReply) {xs : List Status} → (length s ≡ 1920 → First (Applies m s n r block) (reply .status) xs)
+      → First (Applies m s n r block) (onScreen m s block′ reply .status) (ScreenLength ∷ xs)
+  unfolding onScreen
+  screen-first block′ reply rest = refused-unless replied (decides-screen (length s)) (λ k. k) (λ p k. k p) refl rest
+
+  -- a call on a client's port: 1, 2, 8, and then what the call on the port gives
+  call-first : (call : PortCall) {xs : List Status} → ((i : ℕ) → GoesTo m s n i → First (Applies m s n r block) (call (slotAt m i .port) s block .status) xs)
+      → First (Applies m s n r block) (onScreen m s block (onClient call m s n block) .status) (ScreenLength ∷ Invalid ∷ NotOpen ∷ xs)
+  call-first call rest =
+      screen-first block _ λ l.
+      client-first s block _ λ v i o e.
+      rest i (record { valid = v; len = l; is-open = o; client = e })
 
   write-first : First (Applies m s n r block) (writeCall m s n block .status) (ScreenLength ∷ Invalid ∷ NotOpen ∷ [])
-  unfolding console.written
-  write-first = client-first console.written (λ i g. none refl)
+  unfolding written
+  write-first = call-first written (λ i g. none refl)
 
   return-first : First (Applies m s n r block) (returnCall m s n block .status) (ScreenLength ∷ Invalid ∷ NotOpen ∷ BlockTooShort ∷ [])
-  unfolding console.blockReturned
+  unfolding blockReturned
   return-first =
-      client-first console.blockReturned λ i g.
-      refused-if heard (decides-as (decides-lt _ _) (λ h. (i, g .is-open, g .client, h)) (too-short i g)) refl λ _.
+      call-first blockReturned λ i g.
+      refused-if port-replied (decides-as (decides-lt _ _) (λ h. (i, g .is-open, g .client, h)) (too-short i g)) refl λ _.
       none refl
 
   restore-first : First (Applies m s n r block) (restoreCall m s n block .status) (ScreenLength ∷ Invalid ∷ NotOpen ∷ BlockMismatch ∷ [])
-  unfolding console.blockRestored
+  unfolding blockRestored
   restore-first =
-      client-first console.blockRestored λ i g.
-      refused-unless heard (decides-fits (viewport m i) block) (λ h. (i, g .is-open, g .client, h)) (λ h k. mismatched i g k h) refl λ _.
+      call-first blockRestored λ i g.
+      refused-unless port-replied (decides-fits (viewport m i) block) (λ h. (i, g .is-open, g .client, h)) (λ h k. mismatched i g k h) refl λ _.
       none refl
 
   close-first : First (Applies m s n r block) (closeCall m n .status) (Invalid ∷ NotOpen ∷ [])
-  unfolding closeCall
-  close-first =
-      refused-unless replied (decides-multiplexer m) (λ k. k) (λ p k. k p) refl λ v.
-      refused-unless replied (decides-client m n) (λ k i o e. k (i, o, e)) (λ k closed. closed (k .0) (k .1) (k .2)) refl λ _.
-      none refl
-
-  open-status : openCall m s n r .status ≡ openStatus m (length s) n r
-  unfolding openCall
-  open-status =
-      by-test (λ (x : Reply). x .status ≡ openStatus m (length s) n r) (eqb (numberOf (openStatus m (length s) n r)) 0)
-      (λ e. sym (opens-done m (length s) n r (opens m (length s) n r (eqb-true _ _ e))))
-      (λ _. refl)
+  close-first = client-first [] [] (closed m) (λ v i o e. none refl)
 
   open-first : First (Applies m s n r block) (openCall m s n r .status) (ScreenLength ∷ Invalid ∷ ClientZero ∷ PaneIllegal ∷ ClientTaken ∷ PaneShared ∷ Full ∷ [])
-  unfolding openStatus
+  unfolding claimSlot freeSlotFor onSlot
   open-first =
-      rw open-status
-      (refused-unless (λ x. x) (decides-eq (length s) 1920) (λ k. k) (λ p k. k p) refl λ _.
-      refused-unless (λ x. x) (decides-multiplexer m) (λ k. k) (λ p k. k p) refl λ v.
-      refused-if (λ x. x) (decides-eq n 0) refl λ _.
-      refused-unless (λ x. x) (decides-legal r) (λ k. k) (λ p k. k p) refl λ legal.
-      refused-if (λ x. x) (decides-client m n) refl λ _.
-      refused-if (λ x. x) (decides-pane-shared m v r legal) refl λ _.
-      refused-unless (λ x. x) (decides-free m) (λ k i free. k (i, free)) (λ k full. full (k .0) (k .1)) refl λ _.
-      none refl)
+      screen-first [] _ λ _.
+      refused-not (slotStatus m s [] (opened m s n r)) (decides-multiplexer m) (λ k. k) (λ p k. k p) refl λ v.
+      refused-if (slotStatus m s [] (opened m s n r)) (decides-eq n 0) refl λ _.
+      refused-not (slotStatus m s [] (opened m s n r)) (decides-legal r) (λ k. k) (λ p k. k p) refl λ legal.
+      refused-if (slotStatus m s [] (opened m s n r)) (decides-client m n) refl λ _.
+      refused-if (slotStatus m s [] (opened m s n r)) (decides-pane-shared m v r legal) refl λ _.
+      refused-if (slotStatus m s [] (opened m s n r)) (decides-full m) refl λ _.
+      none refl
 
   pub statuses : Statuses m s n r block
   statuses = record {

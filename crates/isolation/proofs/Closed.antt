@@ -7,29 +7,30 @@ use Rattle.port.specs.State.{zeroView}
 use Rattle.rectangle.specs.Rectangles.{isZeroRect}
 use Rattle.port.specs.Valid.{isZeroView, noFlags, unusedZero, usedOrZero}
 use Rattle.slots.specs.declared.Multiplexer.{Multiplexer}
-use Rattle.multiplexer.specs.declared.Status.the-variants.{Done, NotOpen}
+use Rattle.reply.specs.declared.Status.the-variants.{Done, NotOpen}
+use Rattle.reply.specs.Reply.{refusal}
 use Rattle.slots.specs.State.{freeSlot, freshMultiplexer, slotAt, Open, Closed}
 use Rattle.slots.specs.Valid.{isZeroPort, validSlot, compatible, validSlots, validMultiplexer, ValidMultiplexer}
-use Rattle.multiplexer.specs.Calls.{Reply, refusal, closeCall}
+use Rattle.multiplexer.specs.Calls.{MultiplexerReply, closeCall}
+use Rattle.multiplexer.proofs.Clients.{goes-to-slot, goes-nowhere}
+use Rattle.multiplexer.proofs.Replying.{at-slot, at-refusal}
 use Rattle.slots.proofs.Validity.{SlotFacts, decides-zero-port, decides-multiplexer}
-use Rattle.laws.proofs.Tests.{fails}
-use Rattle.slots.proofs.Slots.{decides-client, client?, slot-open, slot-set, slot-kept, set-valid}
+use Rattle.slots.proofs.Slots.{client?, slot-set, slot-kept, set-valid}
 
 free-valid : SlotFacts freeSlot
 unfolding freeSlot isZeroPort isZeroRect isZeroView noFlags zeroView unusedZero usedOrZero
 free-valid = (λ _. decides-zero-port _ .holds refl, λ n. absurd (n refl))
 
-pub record Closing (m : Multiplexer) (i : ℕ) (reply : Reply) : Type 0 where
+pub record Closing (m : Multiplexer) (i : ℕ) (reply : MultiplexerReply) : Type 0 where
   pub status : reply .status ≡ Done
-  pub valid : ValidMultiplexer (reply .multiplexer)
+  pub valid : ValidMultiplexer (reply .state)
   -- 'sets every field of the seat to 0 or false'
-  pub slot : slotAt (reply .multiplexer) i ≡ freeSlot
-  pub others : (j : ℕ) → (j ≡ i → ⊥) → slotAt (reply .multiplexer) j ≡ slotAt m j
+  pub slot : slotAt (reply .state) i ≡ freeSlot
+  pub others : (j : ℕ) → (j ≡ i → ⊥) → slotAt (reply .state) j ≡ slotAt m j
 
 pub closed-leaves : (m : Multiplexer) (n : ℕ) → ValidMultiplexer m → (i : ℕ) → Open m i → slotAt m i .client ≡ n → Closing m i (closeCall m n)
-unfolding closeCall
 closed-leaves m n v i o e =
-    rw (decides-multiplexer m .passes v, decides-client m n .passes (i, o, e), slot-open m v i n o e)
+    rw (at-slot m [] [] _ _ i (goes-to-slot m n v i o e))
     (record {
       status = refl;
       valid = set-valid m v i (o .0) freeSlot free-valid (λ j k u z. absurd (z (unfold freeSlot in refl)));
@@ -38,10 +39,9 @@ closed-leaves m n v i o e =
     })
 
 pub close-refused : (m : Multiplexer) (n : ℕ) → ValidMultiplexer m → Closed m n → closeCall m n ≡ refusal NotOpen m [] []
-unfolding closeCall
-close-refused m n v h = simp (decides-multiplexer m .passes v, fails (decides-client m n) (λ k. h (k .0) (k .1) (k .2)))
+close-refused m n v h = at-refusal m [] [] _ _ NotOpen (goes-nowhere m n v h)
 
-pub close-valid : (m : Multiplexer) (n : ℕ) → ValidMultiplexer m → ValidMultiplexer (closeCall m n .multiplexer)
+pub close-valid : (m : Multiplexer) (n : ℕ) → ValidMultiplexer m → ValidMultiplexer (closeCall m n .state)
 close-valid m n v =
     ⊎-elim (λ k. closed-leaves m n v (k .0) (k .1) (k .2) .valid) (λ h. rw (close-refused m n v h) v) (client? m n)
 

@@ -18,62 +18,61 @@ use Rattle.block.proofs.Restores.{restored-local}
 use Rattle.port.specs.declared.Port.{Port}
 use Rattle.port.specs.Valid.{Valid}
 use Rattle.port.proofs.Streams.{keeps-stream, stream-local}
-use Rattle.console.specs.Calls.{Reply, written, blockReturned, blockRestored}
-use Rattle.isolation.specs.Isolation.{Kind, consoleCall}
+use Rattle.calls.specs.Calls.{PortReply, written, blockReturned, blockRestored}
+use Rattle.isolation.specs.Isolation.{Kind, portCall}
 use Rattle.isolation.specs.Isolation.Kind.{Write, Return, Restore}
 
-pub record Keeps (p : Port) (s : List ℕ) (r : Reply) : Type 0 where
-  pub valid : Valid (r .port)
-  pub home : r .port .home ≡ p .home
+pub record Keeps (p : Port) (s : List ℕ) (r : PortReply) : Type 0 where
+  pub valid : Valid (r .state)
+  pub home : r .state .home ≡ p .home
   pub len : length (r .screen) ≡ 1920
   pub outside : (i : ℕ) → (Inside (p .home) i → ⊥) → getD (r .screen) i 0 ≡ getD s i 0
 
 -- the same call on two screens that agree in a rectangle
-pub record Alike (home : Rect) (a b : Reply) : Type 0 where
+pub record Alike (home : Rect) (a b : PortReply) : Type 0 where
   pub status : a .status ≡ b .status
-  pub port : a .port ≡ b .port
-  pub count : a .count ≡ b .count
+  pub state : a .state ≡ b .state
+  pub result : a .result ≡ b .result
   pub block : a .block ≡ b .block
   pub cells : Agree home (a .screen) (b .screen)
 
 -- replies that differ in their cells at most
-other-cells : (home : Rect) (r : Reply) (t : List ℕ) → Agree home (r .screen) t → Alike home r (record { status = r .status; port = r .port; count = r .count; screen = t; block = r .block })
-other-cells home r t agree = record { status = refl; port = refl; count = refl; block = refl; cells = agree }
+other-cells : (home : Rect) (r : PortReply) (t : List ℕ) → Agree home (r .screen) t → Alike home r (record { status = r .status; state = r .state; result = r .result; screen = t; block = r .block })
+other-cells home r t agree = record { status = refl; state = refl; result = refl; block = refl; cells = agree }
 
-module _ (p : Port) (v : Valid p) (block : List ℕ) where
+module _ (p : Port) (v : Valid p) where
   -- a call that changes neither port nor screen
-  idle : (s : List ℕ) (r : Reply) → length s ≡ 1920 → r .port ≡ p → r .screen ≡ s → Keeps p s r
+  idle : (s : List ℕ) (r : PortReply) → length s ≡ 1920 → r .state ≡ p → r .screen ≡ s → Keeps p s r
   idle s r l e c = record { valid = rw e v; home = rw e; len = rw c l; outside = λ i out. rw c }
 
-  restore-local : Local (p .home) (restored (p .view .viewport) block)
-  restore-local = restored-local (p .view .viewport) (p .home) (v .view .within) (v .home .right-in) (v .home .bottom-in) block
+  restore-local : (block : List ℕ) → Local (p .home) (restored (p .view .viewport) block)
+  restore-local = restored-local (p .view .viewport) (p .home) (v .view .within) (v .home .right-in) (v .home .bottom-in)
 
-  pub keeps-call : (kind : Kind) (s : List ℕ) → length s ≡ 1920 → Keeps p s (consoleCall kind p s block)
+  pub keeps-call : (kind : Kind) (s : List ℕ) → length s ≡ 1920 → Keeps p s (portCall kind p s)
   unfolding written blockReturned blockRestored
-  keeps-call Write s l =
-      let k = keeps-stream p v block in
-      let f = stream-local p v block in
+  keeps-call (Write bytes) s l =
+      let k = keeps-stream p v bytes in
+      let f = stream-local p v bytes in
       record { valid = k .valid; home = k .home; len = f .len s l; outside = f .outside s l }
-  keeps-call Return s l =
+  keeps-call (Return block) s l =
       by-test (Keeps p s) (ltb (length block) (blockLength (p .view .viewport))) (λ _. idle s _ l refl refl) (λ _. idle s _ l refl refl)
-  keeps-call Restore s l =
+  keeps-call (Restore block) s l =
       by-test (Keeps p s) (blockFits (p .view .viewport) block)
-      (λ _. record { valid = v; home = refl; len = restore-local .len s l; outside = restore-local .outside s l })
+      (λ _. record { valid = v; home = refl; len = restore-local block .len s l; outside = restore-local block .outside s l })
       (λ _. idle s _ l refl refl)
 
-  pub alike-call : (kind : Kind) (s t : List ℕ) → length s ≡ 1920 → length t ≡ 1920 → Agree (p .home) s t
-      → Alike (p .home) (consoleCall kind p s block) (consoleCall kind p t block)
+  pub alike-call : (kind : Kind) (s t : List ℕ) → length s ≡ 1920 → length t ≡ 1920 → Agree (p .home) s t → Alike (p .home) (portCall kind p s) (portCall kind p t)
   unfolding written blockReturned blockRestored
-  alike-call Write s t l l′ agree =
-      other-cells (p .home) (written p s block) _ (stream-local p v block .same s t l l′ agree)
-  alike-call Return s t l l′ agree =
+  alike-call (Write bytes) s t l l′ agree =
+      other-cells (p .home) (written p s bytes) _ (stream-local p v bytes .same s t l l′ agree)
+  alike-call (Return block) s t l l′ agree =
       let same = rows-agree (p .view .viewport) s t (omega arith) l l′ (λ i x. agree i (within-inside (v .view .within) x)) in
       ⊎-elim
       (λ e. rw e (other-cells (p .home) _ t agree))
-      (λ e. rw e (record { status = refl; port = refl; count = refl; block = ap (λ x. x ++ drop (blockLength (p .view .viewport)) block) same; cells = agree }))
+      (λ e. rw e (record { status = refl; state = refl; result = refl; block = ap (λ x. x ++ drop (blockLength (p .view .viewport)) block) same; cells = agree }))
       (tested (ltb (length block) (blockLength (p .view .viewport))))
-  alike-call Restore s t l l′ agree =
+  alike-call (Restore block) s t l l′ agree =
       ⊎-elim
-      (λ e. rw e (other-cells (p .home) _ _ (restore-local .same s t l l′ agree)))
+      (λ e. rw e (other-cells (p .home) _ _ (restore-local block .same s t l l′ agree)))
       (λ e. rw e (other-cells (p .home) _ t agree))
       (tested (blockFits (p .view .viewport) block))

@@ -1,63 +1,72 @@
--- A client's write of a and then of b is its write of a and b together, refused or not. Assumes nothing.
-use Prim.Native.Nat.{ℕ, _+_}
-use mathlib.Core.Path.{_≡_, refl, ap}
-use mathlib.Core.Bool.{false}
+-- A client's write of a and then of b is its write of a and b together, refused or not; and what a write counts. Assumes nothing.
+use Prim.Native.Nat.{ℕ}
+use mathlib.Core.Path.{_≡_, refl, ap, _∙_}
 use mathlib.Core.Logic.{_⊎_, inl, inr, ⊎-elim}
 use mathlib.Core.List.{List, _++_}
-use lib.Dec.{eqb}
 use lib.ListN.{length}
-use borrow.Author.Tests.{eqb-true}
-use Rattle.laws.proofs.Tests.{tested}
-use Rattle.port.specs.declared.Port.{Port}
-use Rattle.console.specs.Calls as console
-use Rattle.console.specs.Theorems as consoleTheorems
-use Rattle.console.proofs.Cut as consoleCut
+use Rattle.laws.proofs.Tests.{either, fails}
+use Rattle.screen.proofs.Sizes.{decides-screen}
+use Rattle.port.specs.Commands.{commandCodes, occurrences, waitOf}
+use Rattle.reply.specs.declared.Status.{Status}
+use Rattle.reply.specs.declared.Status.the-variants.{ScreenLength, Invalid, NotOpen}
+use Rattle.reply.specs.Reply.{refusal}
+use Rattle.reply.specs.Laws.{SameCut}
+use Rattle.calls.specs.Calls.{PortReply}
+use Rattle.calls.proofs.Screens.{on-screen, off-screen}
+use Rattle.calls.proofs.Cut.{written-cut, written-bells}
 use Rattle.slots.specs.declared.Multiplexer.{Multiplexer}
-use Rattle.multiplexer.specs.declared.Status.{Status}
-use Rattle.multiplexer.specs.declared.Status.the-variants.{ScreenLength, Invalid, NotOpen}
-use Rattle.slots.specs.State.{slotAt, hasClient, withPort}
-use Rattle.slots.specs.Valid.{validMultiplexer}
-use Rattle.multiplexer.specs.Calls.{statusOf, refusal, relayed, onClient, writeCall}
+use Rattle.slots.specs.State.{slotAt, withPort}
+use Rattle.slots.specs.Valid.{ValidMultiplexer}
 use Rattle.slots.proofs.Validity.{decides-multiplexer}
-use Rattle.slots.proofs.Slots.{decides-client}
+use Rattle.slots.proofs.Slots.{client?}
+use Rattle.multiplexer.specs.Located.{clientSlot}
+use Rattle.multiplexer.specs.Calls.{MultiplexerReply, relayed, writeCall}
+use Rattle.multiplexer.proofs.Clients.{goes-nowhere, invalid-refused}
+use Rattle.multiplexer.proofs.Replying.{at-refusal}
+use Rattle.isolation.specs.Isolation.{callBy, serve}
 use Rattle.isolation.specs.Isolation.Kind.{Write}
-use Rattle.isolation.specs.Laws.{GoesTo, SameCut}
+use Rattle.isolation.specs.Laws.{GoesTo}
 use Rattle.isolation.proofs.Relaying.{one-call, next-call}
 
--- a call is refused whatever its kind and block, or goes to an open slot
+-- a write is refused whatever its bytes, or goes to an open slot
 abbrev Refused : Multiplexer → List ℕ → ℕ → Type 0
-Refused m s n = (status : Status) × ((call : Port → List ℕ → List ℕ → console.Reply) (block : List ℕ) → onClient call m s n block ≡ refusal status m s block)
+Refused m s n = (status : Status) × ((bytes : List ℕ) → writeCall m s n bytes ≡ refusal status m s bytes)
 
 refused-or-goes : (m : Multiplexer) (s : List ℕ) (n : ℕ) → Refused m s n ⊎ ((i : ℕ) × GoesTo m s n i)
-unfolding onClient
 refused-or-goes m s n =
     ⊎-elim
-    (λ e. ⊎-elim
-    (λ k. ⊎-elim
-    (λ h. let f = decides-client m n .holds h in inr (f .0, record { valid = decides-multiplexer m .holds k; len = eqb-true _ _ e; is-open = f .1; client = f .2 }))
-    (λ (h : hasClient m n ≡ false). inl (NotOpen, λ call block. simp (e, k, h)))
-    (tested (hasClient m n)))
-    (λ (k : validMultiplexer m ≡ false). inl (Invalid, λ call block. simp (e, k)))
-    (tested (validMultiplexer m)))
-    (λ (e : eqb (length s) 1920 ≡ false). inl (ScreenLength, λ call block. simp e))
-    (tested (eqb (length s) 1920))
+    (λ l. ⊎-elim
+    (λ (v : ValidMultiplexer m). ⊎-elim
+    (λ k. inr (k .0, record { valid = v; len = l; is-open = k .1; client = k .2 }))
+    (λ h. inl (NotOpen, λ bytes. on-screen m s bytes _ l ∙ at-refusal m s bytes (clientSlot m n) _ NotOpen (goes-nowhere m n v h)))
+    (client? m n))
+    (λ w. inl (Invalid, λ bytes. on-screen m s bytes _ l ∙ at-refusal m s bytes (clientSlot m n) _ Invalid (invalid-refused m n w)))
+    (either (decides-multiplexer m)))
+    (λ l. inl (ScreenLength, λ bytes. off-screen m s bytes _ (fails (decides-screen (length s)) l)))
+    (either (decides-screen (length s)))
 
-relayed-cut : (m : Multiplexer) (i : ℕ) {x y z : console.Reply} → consoleTheorems.SameCut x y z → SameCut (relayed m i x) (relayed m i y) (relayed m i z)
+relayed-cut : (m : Multiplexer) (i : ℕ) {x y z : PortReply} → SameCut x y z → SameCut (relayed m i x) (relayed m i y) (relayed m i z)
 relayed-cut m i k = record {
-  first-status = ap statusOf (k .first-status);
-  second-status = ap statusOf (k .second-status);
-  multiplexer = ap (withPort m i) (k .port);
+  first-status = k .first-status;
+  second-status = k .second-status;
+  state = ap (withPort m i) (k .state);
   screen = k .screen;
   count = k .count;
 }
 
 -- no premise: refused or not
 pub write-cut : (m : Multiplexer) (s : List ℕ) (n : ℕ) (a b : List ℕ)
-    → SameCut (writeCall m s n a) (writeCall (writeCall m s n a .multiplexer) (writeCall m s n a .screen) n b) (writeCall m s n (a ++ b))
+    → SameCut (writeCall m s n a) (writeCall (writeCall m s n a .state) (writeCall m s n a .screen) n b) (writeCall m s n (a ++ b))
+unfolding serve
 write-cut m s n a b =
     ⊎-elim
-    (λ (k : Refused m s n). simp (k .1) (record { first-status = refl; second-status = refl; multiplexer = refl; screen = refl; count = refl }))
+    (λ (k : Refused m s n). simp (k .1) (record { first-status = refl; second-status = refl; state = refl; screen = refl; count = refl }))
     (λ (k : (i : ℕ) × GoesTo m s n i).
-    rw (next-call (k .1) Write Write a b, one-call (k .1) Write a, one-call (k .1) Write (a ++ b))
-    (relayed-cut m (k .0) (consoleCut.write-cut (slotAt m (k .0) .port) s a b)))
+    rw (next-call (k .1) (Write a) (Write b), one-call (k .1) (Write a), one-call (k .1) (Write (a ++ b)))
+    (relayed-cut m (k .0) (written-cut (slotAt m (k .0) .port) s a b)))
     (refused-or-goes m s n)
+
+-- 'the number of $07 taken as commands', of any write that is not refused
+pub write-bells : (m : Multiplexer) (s : List ℕ) (n i : ℕ) (bytes : List ℕ) → GoesTo m s n i → writeCall m s n bytes .result ≡ occurrences 7 (commandCodes (waitOf (slotAt m i .port)) bytes)
+unfolding serve
+write-bells m s n i bytes g = ap (λ (r : MultiplexerReply). r .result) (one-call g (Write bytes)) ∙ written-bells (slotAt m i .port) s bytes

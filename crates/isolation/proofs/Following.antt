@@ -10,33 +10,24 @@ use Rattle.rectangle.specs.Local.{Agree}
 use Rattle.laws.proofs.Tests.{tested}
 use Rattle.port.specs.declared.Port.{Port}
 use Rattle.port.specs.Valid.{Valid}
-use Rattle.console.specs.declared.Status as consoleStatus
-use Rattle.console.specs.Calls as console
+use Rattle.reply.specs.Numbers.{numberOf}
+use Rattle.calls.specs.Calls.{PortReply}
 use Rattle.slots.specs.declared.Slot.{Slot}
 use Rattle.slots.specs.declared.Multiplexer.{Multiplexer}
 use Rattle.slots.specs.State.{slotAt, pane, Open}
 use Rattle.slots.specs.Valid.{ValidMultiplexer}
-use Rattle.multiplexer.specs.Calls.{numberOf, statusOf, Reply}
-use Rattle.isolation.specs.Isolation.{Call, consoleCall, serve, answerOf, serveAll, consoleAnswer, standalone, requestsOf, answersTo}
+use Rattle.isolation.specs.Isolation.{Call, portCall, serve, answerOf, serveAll, standalone, callsOf, answersTo}
 use Rattle.isolation.proofs.Consoles.{keeps-call, alike-call}
 use Rattle.slots.proofs.Slots.{slot-set}
 use Rattle.isolation.proofs.Serving.{goes-to, frame}
-
--- a console's status has the same number on a multiplexer
-pub same-number : (x : consoleStatus.Status) → numberOf (statusOf x) ≡ console.numberOf x
-same-number consoleStatus.the-variants.Done = refl
-same-number consoleStatus.the-variants.ScreenLength = refl
-same-number consoleStatus.the-variants.InvalidPort = refl
-same-number consoleStatus.the-variants.BlockTooShort = refl
-same-number consoleStatus.the-variants.BlockMismatch = refl
 
 -- ---- one open slot against its standalone console
 module _ (i n : ℕ) (small : i < 4) (is-open : n ≡ 0 → ⊥) where
   -- after the calls, the slot, its pane's cells and the answers to its calls are the console's
   pub record Follows (m : Multiplexer) (s : List ℕ) (p : Port) (t : List ℕ) (cs : List Call) : Type 0 where
-    pub slot : slotAt (serveAll serve m s cs .multiplexer) i ≡ record { client = n; port = standalone p t (requestsOf n cs) .port }
-    pub cells : Agree (p .home) (serveAll serve m s cs .screen) (standalone p t (requestsOf n cs) .screen)
-    pub answers : answersTo n cs (serveAll serve m s cs .answers) ≡ standalone p t (requestsOf n cs) .answers
+    pub slot : slotAt (serveAll serve m s cs .multiplexer) i ≡ record { client = n; port = standalone p t (callsOf n cs) .port }
+    pub cells : Agree (p .home) (serveAll serve m s cs .screen) (standalone p t (callsOf n cs) .screen)
+    pub answers : answersTo n cs (serveAll serve m s cs .answers) ≡ standalone p t (callsOf n cs) .answers
 
   -- one call, at a multiplexer and a screen where the slot and its console are alike
   module _ (c : Call) (m : Multiplexer) (s : List ℕ) (p : Port) (t : List ℕ) (v : ValidMultiplexer m) (ls : length s ≡ 1920) (lt : length t ≡ 1920)
@@ -47,28 +38,28 @@ module _ (i n : ℕ) (small : i < 4) (is-open : n ≡ 0 → ⊥) where
     port-valid : Valid p
     port-valid = rw e at (v .ports i here)
 
-    reply : console.Reply
-    reply = consoleCall (c .request .kind) p t (c .request .block)
+    reply : PortReply
+    reply = portCall (c .kind) p t
 
     record Own : Type 0 where
-      slot : slotAt (serve m s c .multiplexer) i ≡ record { client = n; port = reply .port }
+      slot : slotAt (serve m s c .state) i ≡ record { client = n; port = reply .state }
       cells : Agree (p .home) (serve m s c .screen) (reply .screen)
-      answer : answerOf (serve m s c) ≡ consoleAnswer reply
+      answer : answerOf (serve m s c) ≡ answerOf reply
 
     -- a call of this client
     own : c .client ≡ n → Own
     unfolding reply
     own q =
-        let b = alike-call p port-valid (c .request .block) (c .request .kind) s t ls lt a in
+        let b = alike-call p port-valid (c .kind) s t ls lt a in
         let o = goes-to m s c v ls i here (rw e (sym q)) in
         record {
-          slot = rw (o, e) (slot-set m v i small _ ∙ λ k. record { client = n; port = b .port k });
+          slot = rw (o, e) (slot-set m v i small _ ∙ λ k. record { client = n; port = b .state k });
           cells = rw (o, e) (b .cells);
-          answer = rw (o, e) (λ k. record { number = (same-number (consoleCall (c .request .kind) p s (c .request .block) .status) ∙ ap console.numberOf (b .status)) k; count = b .count k; block = b .block k });
+          answer = rw (o, e) (λ k. record { number = numberOf (b .status k); count = b .result k; block = b .block k });
         }
 
     -- a call of another
-    other : (c .client ≡ n → ⊥) → (slotAt (serve m s c .multiplexer) i ≡ record { client = n; port = p }) × Agree (p .home) (serve m s c .screen) t
+    other : (c .client ≡ n → ⊥) → (slotAt (serve m s c .state) i ≡ record { client = n; port = p }) × Agree (p .home) (serve m s c .screen) t
     other q =
         let f = frame m s c v ls in
         let client : slotAt m i .client ≡ n = ap (λ (x : Slot). x .client) e in (
@@ -78,16 +69,16 @@ module _ (i n : ℕ) (small : i < 4) (is-open : n ≡ 0 → ⊥) where
 
   pub follows : (cs : List Call) (m : Multiplexer) (s : List ℕ) (p : Port) (t : List ℕ) → ValidMultiplexer m → length s ≡ 1920 → length t ≡ 1920
       → slotAt m i ≡ record { client = n; port = p } → Agree (p .home) s t → Follows m s p t cs
-  unfolding serveAll standalone requestsOf answersTo reply
+  unfolding serveAll standalone callsOf answersTo reply
   follows [] m s p t v ls lt e a = record { slot = e; cells = a; answers = refl }
   follows (c ∷ cs) m s p t v ls lt e a =
       let f = frame m s c v ls in
       ⊎-elim
       (λ q. let o = own c m s p t v ls lt e a (eqb-true _ _ q) in
-      let b = keeps-call p (port-valid c m s p t v ls lt e a) (c .request .block) (c .request .kind) t lt in
-      let r = follows cs (serve m s c .multiplexer) (serve m s c .screen) _ _ (f .valid) (f .len) (b .len) (o .slot) (rw (b .home) (o .cells)) in
+      let b = keeps-call p (port-valid c m s p t v ls lt e a) (c .kind) t lt in
+      let r = follows cs (serve m s c .state) (serve m s c .screen) _ _ (f .valid) (f .len) (b .len) (o .slot) (rw (b .home) (o .cells)) in
       record { slot = rw q (r .slot); cells = rw q (λ k x. r .cells k (rw (b .home) x)); answers = rw q (ap₂ _∷_ (o .answer) (r .answers)) })
       (λ q. let o = other c m s p t v ls lt e a (eqb-false _ _ q) in
-      let r = follows cs (serve m s c .multiplexer) (serve m s c .screen) p t (f .valid) (f .len) lt (o .0) (o .1) in
+      let r = follows cs (serve m s c .state) (serve m s c .screen) p t (f .valid) (f .len) lt (o .0) (o .1) in
       record { slot = rw q (r .slot); cells = rw q (r .cells); answers = rw q (r .answers) })
       (tested (eqb (c .client) n))

@@ -7,35 +7,36 @@ use mathlib.Core.List.{List, [], _∷_, map}
 use lib.Dec.{eqb}
 use lib.ListN.{length, getD, replicate, length-replicate}
 use borrow.Author.Tests.{eqb-true}
+use Rattle.laws.proofs.Tests.{not-both}
 use Rattle.rectangle.specs.declared.Rect.{Rect}
 use Rattle.rectangle.specs.declared.Motion.the-variants.{Clear}
 use Rattle.rectangle.specs.Cells.{inside}
+use Rattle.rectangle.specs.Rectangles.{rectOf, sharesCell}
 use Rattle.rectangle.specs.Edit.{vacated, editedCell, edited, draw}
-use Rattle.laws.proofs.Tests.{not-both}
 use Rattle.rectangle.proofs.Local.{length-edited, edited-at}
 use Rattle.charset.specs.Stored.{inRange, storedSymbol, storedCapital, storedHigh, storedByte}
-use Rattle.rectangle.specs.Rectangles.{rectOf, legal, within, isZeroRect, sharesCell}
-use Rattle.port.specs.State.{zeroView, defaultView, freshPort}
-use Rattle.port.specs.Valid.{cursorInside, validView, noFlags, isZeroView, validSaved, parameters, usedOrZero, unusedZero, countFits, validWait, valid}
+use Rattle.port.specs.declared.Port.{Port}
+use Rattle.port.specs.State.{freshPort}
+use Rattle.port.specs.Valid.{parameters}
 use Rattle.port.specs.Codes.{moveCursorRight, modeOf, storeCell, advanced, printByte, print}
 use Rattle.port.specs.Effect.{cursorAt}
 use Rattle.port.specs.Step.{withView, control, obey, step}
 use Rattle.port.specs.Stream.{stream}
 use Rattle.block.specs.Block.{blockLength, blockFits, blockPlace}
 use Rattle.block.proofs.Restores.{restored-inside}
-use Rattle.console.specs.declared.Status as consoleStatus
-use Rattle.console.specs.Calls as console
-use Rattle.console.specs.Calls.{written, blockReturned, blockRestored}
+use Rattle.reply.specs.declared.Status.the-variants.{Done}
+use Rattle.calls.specs.Calls.{PortReply, written, blockReturned, blockRestored}
 use Rattle.slots.specs.declared.Multiplexer.{Multiplexer}
 use Rattle.slots.specs.State.{freeSlot, freshMultiplexer, Open, slotOf, hasClient, freshSlot, Closed}
 use Rattle.slots.specs.Panes.{paneShared}
-use Rattle.slots.specs.Valid.{isZeroPort, validSlot, compatible, validSlots, validMultiplexer, ValidMultiplexer}
-use Rattle.multiplexer.specs.Calls.{Reply, openStatus, opened, openCall}
-use Rattle.isolation.specs.Isolation.{Kind, Request, Call, Answer, serve, serveAll, requestsOf, standalone, answersTo, Isolated, SameEnd}
-use Rattle.isolation.specs.Isolation.Kind.{Write, Return, Restore}
+use Rattle.slots.specs.Valid.{validMultiplexer, ValidMultiplexer}
 use Rattle.slots.proofs.Validity.{decides-multiplexer}
 use Rattle.slots.proofs.Slots.{decides-client}
-use Rattle.isolation.proofs.Opened.{open-valid}
+use Rattle.multiplexer.specs.Calls.{MultiplexerReply, opened, openCall}
+use Rattle.multiplexer.proofs.Claims.{Claims, decides-pane-shared}
+use Rattle.isolation.specs.Isolation.{Kind, Call, callBy, Answer, serve, serveAll, callsOf, standalone, answersTo, Isolated, SameEnd}
+use Rattle.isolation.specs.Isolation.Kind.{Write, Return, Restore}
+use Rattle.isolation.proofs.Opened.{opens, open-valid}
 use Rattle.isolation.proofs.Closed.{fresh-multiplexer}
 use Rattle.isolation.proofs.Isolation.{isolation}
 
@@ -51,47 +52,73 @@ rightPane = rectOf 2 0 3 1
 unfoldable pub pair : Multiplexer
 pair = record { slots = freshSlot 7 leftPane ∷ freshSlot 200 rightPane ∷ freeSlot ∷ freeSlot ∷ [] }
 
-firstOpening : Reply
+firstOpening : MultiplexerReply
 firstOpening = openCall freshMultiplexer blankScreen 7 leftPane
 
-secondOpening : Reply
-secondOpening = openCall (firstOpening .multiplexer) (firstOpening .screen) 200 rightPane
+secondOpening : MultiplexerReply
+secondOpening = openCall (firstOpening .state) (firstOpening .screen) 200 rightPane
 
 pub blank-length : length blankScreen ≡ 1920
 unfolding blankScreen
 blank-length = simp length-replicate
 
-first-opened : firstOpening ≡ opened freshMultiplexer blankScreen 7 leftPane
-unfolding firstOpening openCall openStatus validMultiplexer validSlots validSlot compatible isZeroPort freeSlot zeroView isZeroRect isZeroView noFlags unusedZero usedOrZero slotOf hasClient paneShared legal
-first-opened = rw blank-length
+-- with one slot open, the first
+single : Multiplexer
+single = record { slots = freshSlot 7 leftPane ∷ freeSlot ∷ freeSlot ∷ freeSlot ∷ [] }
 
-second-opened : secondOpening .multiplexer ≡ pair
-unfolding secondOpening pair openCall openStatus validMultiplexer validSlots validSlot compatible isZeroPort freeSlot zeroView isZeroRect isZeroView noFlags unusedZero usedOrZero slotOf hasClient paneShared legal sharesCell valid validView within cursorInside validSaved validWait countFits
-second-opened = rw (first-opened, length-edited leftPane Clear 0xa0 blankScreen)
+first-claims : Claims freshMultiplexer 7 leftPane
+unfolding freeSlot slotOf hasClient paneShared
+first-claims = record {
+  valid = fresh-multiplexer;
+  not-zero = λ e. omega arith;
+  legal = omega arith;
+  new = λ i o e. not-both (decides-client freshMultiplexer 7 .passes (i, o, e)) refl;
+  apart = λ i o k x y. not-both (decides-pane-shared freshMultiplexer fresh-multiplexer leftPane (omega arith) .passes (i, o, (k, x, y))) refl;
+  room = omega arith;
+}
+
+first-opened : firstOpening ≡ record { status = Done; state = single; result = 0; screen = edited leftPane Clear 0xa0 blankScreen; block = [] }
+unfolding firstOpening single freeSlot slotOf
+first-opened = opens freshMultiplexer blankScreen 7 leftPane blank-length first-claims
+
+single-valid : ValidMultiplexer single
+unfolding firstOpening
+single-valid = subst ValidMultiplexer (ap (λ (r : MultiplexerReply). r .state) first-opened) (open-valid freshMultiplexer blankScreen 7 leftPane fresh-multiplexer)
+
+second-claims : Claims single 200 rightPane
+unfolding single freeSlot slotOf hasClient paneShared sharesCell
+second-claims = record {
+  valid = single-valid;
+  not-zero = λ e. omega arith;
+  legal = omega arith;
+  new = λ i o e. not-both (decides-client single 200 .passes (i, o, e)) refl;
+  apart = λ i o k x y. not-both (decides-pane-shared single single-valid rightPane (omega arith) .passes (i, o, (k, x, y))) refl;
+  room = omega arith;
+}
+
+second-opened : secondOpening .state ≡ pair
+unfolding secondOpening single pair freeSlot slotOf
+second-opened =
+    rw first-opened
+    (ap (λ (r : MultiplexerReply). r .state) (opens single (edited leftPane Clear 0xa0 blankScreen) 200 rightPane (length-edited leftPane Clear 0xa0 blankScreen) second-claims))
 
 pub pair-valid : validMultiplexer pair ≡ true
-unfolding firstOpening secondOpening
+unfolding secondOpening
 pair-valid =
     decides-multiplexer pair .passes
-    (subst ValidMultiplexer second-opened (open-valid (firstOpening .multiplexer) (firstOpening .screen) 200 rightPane (open-valid freshMultiplexer blankScreen 7 leftPane fresh-multiplexer)))
-
-abbrev by : ℕ → Request → Call
-by n q = record { client = n; request = q }
-
-abbrev pub request : Kind → ℕ → List ℕ → Call
-request kind n block = by n (record { kind = kind; block = block })
+    (subst ValidMultiplexer second-opened (open-valid (firstOpening .state) (firstOpening .screen) 200 rightPane (rw first-opened single-valid)))
 
 -- 9 and 0 have no open slot; one block is too short, and one does not fit
 calls : List Call
 calls =
-    request Write 7 (0x41 ∷ 0x07 ∷ [])
-    ∷ request Write 200 (0x42 ∷ [])
-    ∷ request Write 9 (0x0c ∷ [])
-    ∷ request Write 0 (0x0c ∷ [])
-    ∷ request Return 7 (1 ∷ 2 ∷ 3 ∷ 4 ∷ 5 ∷ 6 ∷ 9 ∷ [])
-    ∷ request Return 200 (1 ∷ [])
-    ∷ request Restore 200 (2 ∷ 2 ∷ 10 ∷ 11 ∷ 12 ∷ 13 ∷ [])
-    ∷ request Restore 7 (3 ∷ [])
+    callBy 7 (Write (0x41 ∷ 0x07 ∷ []))
+    ∷ callBy 200 (Write (0x42 ∷ []))
+    ∷ callBy 9 (Write (0x0c ∷ []))
+    ∷ callBy 0 (Write (0x0c ∷ []))
+    ∷ callBy 7 (Return (1 ∷ 2 ∷ 3 ∷ 4 ∷ 5 ∷ 6 ∷ 9 ∷ []))
+    ∷ callBy 200 (Return (1 ∷ []))
+    ∷ callBy 200 (Restore (2 ∷ 2 ∷ 10 ∷ 11 ∷ 12 ∷ 13 ∷ []))
+    ∷ callBy 7 (Restore (3 ∷ []))
     ∷ []
 
 instance-isolated : Isolated serve pair blankScreen calls
@@ -106,14 +133,16 @@ unfolding pair
 right-open = (omega arith, λ e. omega arith)
 
 -- what the two writes leave: a stored letter, the cursor one to the right, and a bell for $07
-wroteIn : Rect → List ℕ → List ℕ → ℕ → ℕ → console.Reply
-wroteIn home s bytes stored bells = record {
-  status = consoleStatus.the-variants.Done;
-  port = withView (freshPort home) (cursorAt (defaultView home) (home .left + 1) (home .top));
-  count = bells;
-  screen = edited (rectOf (home .left) (home .top) (home .left) (home .top)) Clear stored s;
-  block = bytes;
-}
+wroteIn : Rect → List ℕ → List ℕ → ℕ → ℕ → PortReply
+wroteIn home s bytes stored bells =
+    let p : Port = freshPort home in
+    record {
+      status = Done;
+      state = withView p (cursorAt (p .view) (home .left + 1) (home .top));
+      result = bells;
+      screen = edited (rectOf (home .left) (home .top) (home .left) (home .top)) Clear stored s;
+      block = bytes;
+    }
 
 wrote-7 : (s : List ℕ) → written (freshPort leftPane) s (0x41 ∷ 0x07 ∷ []) ≡ wroteIn leftPane s (0x41 ∷ 0x07 ∷ []) 0x81 1
 unfolding wroteIn written draw stream step parameters control obey print printByte storeCell advanced moveCursorRight modeOf storedByte storedSymbol storedCapital storedHigh inRange
@@ -131,11 +160,11 @@ answered : ℕ → List (List ℕ)
 answered n = map outline (answersTo n calls (serveAll serve pair blankScreen calls .answers))
 
 answered-7 : answered 7 ≡ ((0 ∷ 1 ∷ []) ∷ (0 ∷ 6 ∷ []) ∷ (10 ∷ 0 ∷ []) ∷ [])
-unfolding wroteIn pair calls outline answered requestsOf standalone blockReturned blockRestored blockLength blockFits
+unfolding wroteIn pair calls outline answered callsOf standalone blockReturned blockRestored blockLength blockFits
 answered-7 = ap (map outline) (instance-isolated .answers 0 left-open) ∙ rw (wrote-7 blankScreen)
 
 answered-200 : answered 200 ≡ ((0 ∷ 0 ∷ []) ∷ (9 ∷ 0 ∷ []) ∷ (0 ∷ 0 ∷ []) ∷ [])
-unfolding wroteIn pair calls outline answered requestsOf standalone blockReturned blockRestored blockLength blockFits
+unfolding wroteIn pair calls outline answered callsOf standalone blockReturned blockRestored blockLength blockFits
 answered-200 = ap (map outline) (instance-isolated .answers 1 right-open) ∙ rw (wrote-200 blankScreen)
 
 none-9 : Closed pair 9
@@ -147,26 +176,26 @@ pub none-0 : (m : Multiplexer) → Closed m 0
 none-0 m i o e = o .1 e
 
 answered-9 : answered 9 ≡ ((8 ∷ 0 ∷ []) ∷ [])
-unfolding calls outline answered requestsOf
+unfolding calls outline answered callsOf
 answered-9 = ap (map outline) (instance-isolated .answers-8 9 none-9)
 
 answered-0 : answered 0 ≡ ((8 ∷ 0 ∷ []) ∷ [])
-unfolding calls outline answered requestsOf
+unfolding calls outline answered callsOf
 answered-0 = ap (map outline) (instance-isolated .answers-8 0 (none-0 pair))
 
 -- the first cell of the left pane is as written, and that of the right one as restored
 first-cell : getD (serveAll serve pair blankScreen calls .screen) 0 0 ≡ 0x81
-unfolding wroteIn pair calls requestsOf standalone blockReturned blockRestored blockLength blockFits editedCell inside vacated
+unfolding wroteIn pair calls callsOf standalone blockReturned blockRestored blockLength blockFits editedCell inside vacated
 first-cell = instance-isolated .cells 0 left-open 0 (omega arith) ∙ rw (wrote-7 blankScreen) (edited-at (rectOf 0 0 0 0) Clear 0x81 blankScreen 0 (omega arith))
 
 second-cell : getD (serveAll serve pair blankScreen calls .screen) 2 0 ≡ 10
-unfolding wroteIn pair calls requestsOf standalone blockReturned blockRestored blockLength blockFits blockPlace
+unfolding wroteIn pair calls callsOf standalone blockReturned blockRestored blockLength blockFits blockPlace
 second-cell =
     instance-isolated .cells 1 right-open 2 (omega arith)
     ∙ rw (wrote-200 blankScreen) (restored-inside rightPane (2 ∷ 2 ∷ 10 ∷ 11 ∷ 12 ∷ 13 ∷ []) _ 2 (omega arith) (omega arith))
 
 -- the second half is not empty either: the calls of two clients, in either order
-two-orders : (a b : Request) → SameEnd serve pair blankScreen (by 7 a ∷ by 200 b ∷ []) (by 200 b ∷ by 7 a ∷ [])
+two-orders : (a b : Kind) → SameEnd serve pair blankScreen (callBy 7 a ∷ callBy 200 b ∷ []) (callBy 200 b ∷ callBy 7 a ∷ [])
 two-orders a b = isolation .same-end pair blankScreen _ _ pair-valid blank-length same
   where
     swap : (t u : Bool) → (t ≡ true → u ≡ true → ⊥) → cond t (a ∷ cond u (b ∷ []) []) (cond u (b ∷ []) []) ≡ cond u (b ∷ cond t (a ∷ []) []) (cond t (a ∷ []) [])
@@ -175,5 +204,5 @@ two-orders a b = isolation .same-end pair blankScreen _ _ pair-valid blank-lengt
     swap false true h = refl
     swap false false h = refl
 
-    same : (n : ℕ) → requestsOf n (by 7 a ∷ by 200 b ∷ []) ≡ requestsOf n (by 200 b ∷ by 7 a ∷ [])
-    same n = unfold requestsOf in swap (eqb 7 n) (eqb 200 n) (λ e k. let x = eqb-true 7 n e in let y = eqb-true 200 n k in omega arith)
+    same : (n : ℕ) → callsOf n (callBy 7 a ∷ callBy 200 b ∷ []) ≡ callsOf n (callBy 200 b ∷ callBy 7 a ∷ [])
+    same n = unfold callsOf in swap (eqb 7 n) (eqb 200 n) (λ e k. let x = eqb-true 7 n e in let y = eqb-true 200 n k in omega arith)

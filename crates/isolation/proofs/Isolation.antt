@@ -16,8 +16,8 @@ use Rattle.slots.specs.declared.Slot.{Slot}
 use Rattle.slots.specs.declared.Multiplexer.{Multiplexer}
 use Rattle.slots.specs.State.{noSlot, slotAt, pane, Open, Closed}
 use Rattle.slots.specs.Valid.{validMultiplexer, ValidMultiplexer}
-use Rattle.multiplexer.specs.Calls.{Reply}
-use Rattle.isolation.specs.Isolation.{Call, Server, serve, answerOf, serveAll, requestsOf, answersTo, notOpen, Isolated, Isolation}
+use Rattle.multiplexer.specs.Calls.{MultiplexerReply}
+use Rattle.isolation.specs.Isolation.{Call, Server, serve, ServesCalls, answerOf, serveAll, callsOf, answersTo, notOpen, Isolated, Isolation}
 use Rattle.slots.proofs.Validity.{decides-multiplexer}
 use Rattle.slots.proofs.Slots.{client?}
 use Rattle.isolation.proofs.Following.{Follows, follows}
@@ -38,15 +38,15 @@ record Stays (m : Multiplexer) (s : List ℕ) (cs : List Call) : Type 0 where
   each-answered : length (serveAll serve m s cs .answers) ≡ length cs
   free : (i : ℕ) → slotAt m i .client ≡ 0 → slotAt (serveAll serve m s cs .multiplexer) i ≡ slotAt m i
   outside : (k : ℕ) → ((i : ℕ) → Open m i → Inside (pane m i) k → ⊥) → getD (serveAll serve m s cs .screen) k 0 ≡ getD s k 0
-  answers-8 : (n : ℕ) → Closed m n → answersTo n cs (serveAll serve m s cs .answers) ≡ map notOpen (requestsOf n cs)
+  answers-8 : (n : ℕ) → Closed m n → answersTo n cs (serveAll serve m s cs .answers) ≡ map notOpen (callsOf n cs)
 
 stays : (cs : List Call) (m : Multiplexer) (s : List ℕ) → ValidMultiplexer m → length s ≡ 1920 → Stays m s cs
-unfolding serveAll requestsOf answersTo
+unfolding serveAll callsOf answersTo
 stays [] m s v l =
     record { valid = v; len = l; labels = record { client = λ i. refl; home = λ i. refl }; each-answered = refl; free = λ i e. refl; outside = λ k h. refl; answers-8 = λ n h. refl }
 stays (c ∷ cs) m s v l =
     let f = frame m s c v l in
-    let next = serve m s c .multiplexer in
+    let next = serve m s c .state in
     let rest = stays cs next (serve m s c .screen) (f .valid) (f .len) in
     record {
       valid = rest .valid;
@@ -65,14 +65,14 @@ stays (c ∷ cs) m s v l =
 
 -- one call more at the end
 record More (m : Multiplexer) (s : List ℕ) (cs : List Call) (c : Call) : Type 0 where
-  multiplexer : serveAll serve m s (cs ++ (c ∷ [])) .multiplexer ≡ serve (serveAll serve m s cs .multiplexer) (serveAll serve m s cs .screen) c .multiplexer
+  multiplexer : serveAll serve m s (cs ++ (c ∷ [])) .multiplexer ≡ serve (serveAll serve m s cs .multiplexer) (serveAll serve m s cs .screen) c .state
   screen : serveAll serve m s (cs ++ (c ∷ [])) .screen ≡ serve (serveAll serve m s cs .multiplexer) (serveAll serve m s cs .screen) c .screen
 
 more : (cs : List Call) (m : Multiplexer) (s : List ℕ) (c : Call) → More m s cs c
 unfolding serveAll
 more [] m s c = record { multiplexer = refl; screen = refl }
 more (x ∷ cs) m s c =
-    let rest = more cs (serve m s x .multiplexer) (serve m s x .screen) c in
+    let rest = more cs (serve m s x .state) (serve m s x .screen) c in
     record { multiplexer = rest .multiplexer; screen = rest .screen }
 
 each-isolated : (m : Multiplexer) (s : List ℕ) (cs : List Call) → validMultiplexer m ≡ true → length s ≡ 1920 → Isolated serve m s cs
@@ -91,7 +91,7 @@ each-isolated m s cs valid l =
           let q = stays before m s v l in
           let end = serveAll serve m s before in
           let t = turned-away (end .multiplexer) (end .screen) c (q .valid) (q .len) (closed-same (end .multiplexer) m (q .labels) (c .client) h) in
-          (more before m s c .multiplexer ∙ ap (λ (r : Reply). r .multiplexer) t, more before m s c .screen ∙ ap (λ (r : Reply). r .screen) t);
+          (more before m s c .multiplexer ∙ ap (λ (r : MultiplexerReply). r .state) t, more before m s c .screen ∙ ap (λ (r : MultiplexerReply). r .screen) t);
       outside = k .outside;
       free = λ i z. k .free i (z .1);
       still-valid = decides-multiplexer _ .passes (k .valid);
@@ -121,7 +121,7 @@ pane? m k =
 
 -- what two servers leave that are both isolated
 module _ (f g : Server) (m : Multiplexer) (s : List ℕ) (cs ds : List Call) (a : Isolated f m s cs) (b : Isolated g m s ds)
-    (e : (n : ℕ) → requestsOf n cs ≡ requestsOf n ds) where
+    (e : (n : ℕ) → callsOf n cs ≡ callsOf n ds) where
   ends-multiplexer : serveAll f m s cs .multiplexer ≡ serveAll g m s ds .multiplexer
   ends-multiplexer =
       let j = decides-multiplexer _ .holds (a .still-valid) .four in
@@ -149,6 +149,11 @@ module _ (f g : Server) (m : Multiplexer) (s : List ℕ) (cs ds : List Call) (a 
       (λ closed. a .answers-8 n closed ∙ rw (e n) (sym (b .answers-8 n closed)))
       (client? m n)
 
+-- its calls are those that the multiplexer's contracts cite
+pub serves-calls : ServesCalls serve
+unfolding serve
+serves-calls = record { write = λ m s n bytes. refl; return = λ m s n block. refl; restore = λ m s n block. refl }
+
 -- demand 3
 pub isolation : Isolation serve
 isolation = record {
@@ -160,8 +165,8 @@ isolation = record {
 }
 
 -- no other server meets it: on a valid multiplexer and 1,920 cells it does what `serve` does
-pub record Serves (r q : Reply) : Type 0 where
-  pub multiplexer : r .multiplexer ≡ q .multiplexer
+pub record Serves (r q : MultiplexerReply) : Type 0 where
+  pub state : r .state ≡ q .state
   pub screen : r .screen ≡ q .screen
   pub answer : answerOf r ≡ answerOf q
 
@@ -173,7 +178,7 @@ only-serve f d m s c v l =
     let b = each-isolated m s cs v l in
     let one : answerOf (f m s c) ∷ [] ≡ answerOf (serve m s c) ∷ [] = rw (eq-eqb (c .client) (c .client) refl) at (ends-answers f serve m s cs cs a b (λ n. refl) (c .client)) in
     record {
-      multiplexer = ends-multiplexer f serve m s cs cs a b (λ n. refl);
+      state = ends-multiplexer f serve m s cs cs a b (λ n. refl);
       screen = ends-screen f serve m s cs cs a b (λ n. refl);
       answer = cc;
     }

@@ -1,46 +1,53 @@
 -- What an opening leaves, and that every opening leaves a valid multiplexer valid. Assumes nothing.
 use Prim.Native.Nat.{ℕ, _<_}
 use native.Mathlib.Omega.{arith}
-use mathlib.Core.Path.{_≡_, ap, _∙_}
+use mathlib.Core.Path.{_≡_, refl, _∙_}
 use mathlib.Core.Logic.{⊎-elim}
-use mathlib.Core.List.{List}
-use lib.Dec.{eqb}
+use mathlib.Core.List.{List, []}
 use lib.ListN.{length, getD}
-use borrow.Author.Tests.{eqb-true, eqb-false}
 use Rattle.rectangle.specs.declared.Rect.{Rect}
 use Rattle.rectangle.specs.declared.Motion.the-variants.{Clear}
 use Rattle.rectangle.specs.Cells.{Inside}
-use Rattle.laws.proofs.Tests.{tested}
 use Rattle.rectangle.proofs.Edits.{cell-vacated}
 use Rattle.rectangle.proofs.Local.{edited-at, edit-local}
+use Rattle.laws.proofs.Tests.{tested}
+use Rattle.screen.specs.Size.{isScreen}
+use Rattle.screen.proofs.Sizes.{decides-screen}
 use Rattle.port.proofs.Validity.{fresh-valid}
+use Rattle.calls.proofs.Screens.{on-screen, off-screen}
 use Rattle.slots.specs.declared.Multiplexer.{Multiplexer}
 use Rattle.slots.specs.State.{slotAt, Open, slotOf, freshSlot}
 use Rattle.slots.specs.Valid.{ValidMultiplexer}
-use Rattle.multiplexer.specs.Calls.{numberOf, Reply, openStatus, openCall}
+use Rattle.multiplexer.specs.Located.{claimSlot}
+use Rattle.multiplexer.specs.Calls.{MultiplexerReply, onSlot, opened, openCall}
 use Rattle.slots.proofs.Slots.{slot-client, slot-first, slot-set, slot-kept, set-valid}
-use Rattle.multiplexer.proofs.Opening.{Opens, opens, opens-done, open-refused}
+use Rattle.multiplexer.proofs.Claims.{Claims, claims, claims-lowest}
+use Rattle.multiplexer.proofs.Replying.{at-slot, by-slot}
+use Rattle.isolation.proofs.Refusals.{Unchanged, screen-refuses}
 
-pub record Opening (m : Multiplexer) (s : List ℕ) (n : ℕ) (r : Rect) (reply : Reply) : Type 0 where
-  pub valid : ValidMultiplexer (reply .multiplexer)
+pub record Opening (m : Multiplexer) (s : List ℕ) (n : ℕ) (r : Rect) (reply : MultiplexerReply) : Type 0 where
+  pub valid : ValidMultiplexer (reply .state)
   -- 'takes the lowest free seat' ..
   pub was-free : slotAt m (slotOf m 0) .client ≡ 0
   pub lowest : (i : ℕ) → i < slotOf m 0 → Open m i
   -- .. 'starts a fresh port' there ..
-  pub slot : slotAt (reply .multiplexer) (slotOf m 0) ≡ freshSlot n r
-  pub others : (i : ℕ) → (i ≡ slotOf m 0 → ⊥) → slotAt (reply .multiplexer) i ≡ slotAt m i
+  pub slot : slotAt (reply .state) (slotOf m 0) ≡ freshSlot n r
+  pub others : (i : ℕ) → (i ≡ slotOf m 0 → ⊥) → slotAt (reply .state) i ≡ slotAt m i
   -- .. 'and blanks the pane'
   pub len : length (reply .screen) ≡ 1920
   pub blank : (k : ℕ) → Inside r k → getD (reply .screen) k 0 ≡ 0xa0
   pub outside : (k : ℕ) → (Inside r k → ⊥) → getD (reply .screen) k 0 ≡ getD s k 0
 
-pub opened-leaves : (m : Multiplexer) (s : List ℕ) (n : ℕ) (r : Rect) → Opens m (length s) n r → Opening m s n r (openCall m s n r)
-unfolding openCall
-opened-leaves m s n r o =
+-- an opening on 1,920 cells that none of 2 to 7 refuses
+pub opens : (m : Multiplexer) (s : List ℕ) (n : ℕ) (r : Rect) → length s ≡ 1920 → Claims m n r → openCall m s n r ≡ opened m s n r (slotOf m 0)
+opens m s n r len o = on-screen m s [] _ len ∙ at-slot m s [] _ _ (slotOf m 0) (claims-lowest m n r o)
+
+pub opened-leaves : (m : Multiplexer) (s : List ℕ) (n : ℕ) (r : Rect) → length s ≡ 1920 → Claims m n r → Opening m s n r (openCall m s n r)
+opened-leaves m s n r len o =
     let v = o .valid in
     let l = o .legal in
     let e = edit-local r r Clear 0xa0 (omega arith) (l .right-in) (l .bottom-in) in
-    rw (opens-done m (length s) n r o)
+    rw (opens m s n r len o)
     (record {
       valid =
           set-valid m v (slotOf m 0) (o .room) (freshSlot n r) (λ z. absurd (o .not-zero z), λ _. fresh-valid r l)
@@ -49,15 +56,22 @@ opened-leaves m s n r o =
       lowest = λ i h. (let k = o .room in omega arith, slot-first m 0 i h);
       slot = slot-set m v (slotOf m 0) (o .room) (freshSlot n r);
       others = slot-kept m v (slotOf m 0) (o .room) (freshSlot n r);
-      len = e .len s (o .len);
+      len = e .len s len;
       blank = λ k x. edited-at r Clear 0xa0 s k (omega arith) ∙ cell-vacated r Clear 0xa0 _ k x tt;
-      outside = e .outside s (o .len);
+      outside = e .outside s len;
     })
 
+-- an opening that is refused changes nothing
+pub open-refuses : (m : Multiplexer) (s : List ℕ) (n : ℕ) (r : Rect) → Unchanged m s [] (openCall m s n r)
+open-refuses m s n r = screen-refuses m s [] _ (by-slot (Unchanged m s []) m s [] (claimSlot m n r) (opened m s n r) (λ status _ e. refl) (λ i _ e. absurd (e refl)))
+
 -- every opening, refused or not, leaves a valid multiplexer
-pub open-valid : (m : Multiplexer) (s : List ℕ) (n : ℕ) (r : Rect) → ValidMultiplexer m → ValidMultiplexer (openCall m s n r .multiplexer)
+pub open-valid : (m : Multiplexer) (s : List ℕ) (n : ℕ) (r : Rect) → ValidMultiplexer m → ValidMultiplexer (openCall m s n r .state)
 open-valid m s n r v =
     ⊎-elim
-    (λ e. opened-leaves m s n r (opens m (length s) n r (eqb-true _ _ e)) .valid)
-    (λ e. rw (open-refused m s n r (λ o. eqb-false _ _ e (ap numberOf (opens-done m (length s) n r o)))) v)
-    (tested (eqb (numberOf (openStatus m (length s) n r)) 0))
+    (λ e. let len = decides-screen (length s) .holds e in
+    rw (on-screen m s [] (onSlot m s [] (claimSlot m n r) (opened m s n r)) len)
+    (by-slot (λ (x : MultiplexerReply). ValidMultiplexer (x .state)) m s [] (claimSlot m n r) (opened m s n r) (λ status _. v)
+    (λ i k. let c = claims m n r i k in rw (c .1) (rw (opens m s n r len (c .0)) at (opened-leaves m s n r len (c .0) .valid)))))
+    (λ e. rw (off-screen m s [] _ e) v)
+    (tested (isScreen (length s)))

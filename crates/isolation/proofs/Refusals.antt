@@ -4,70 +4,72 @@ use mathlib.Core.Path.{_≡_, refl, ap, _∙_}
 use mathlib.Core.Bool.{false}
 use mathlib.Core.Logic.{⊎-elim}
 use mathlib.Core.List.{List, []}
-use lib.Dec.{ltb, eqb}
 use lib.ListN.{length}
 use lib.Seq.{set-getD}
-use borrow.Author.Tests.{eqb-true}
 use Rattle.laws.proofs.Tests.{tested, by-test}
-use Rattle.block.specs.Block.{blockLength, blockFits}
+use Rattle.screen.specs.Size.{isScreen}
+use Rattle.screen.proofs.Sizes.{decides-screen}
 use Rattle.port.specs.declared.Port.{Port}
-use Rattle.console.specs.Calls as console
-use Rattle.console.specs.Theorems as consoleTheorems
+use Rattle.reply.specs.declared.Status.the-variants.{Done, ScreenLength}
+use Rattle.reply.specs.Reply.{refusal}
+use Rattle.reply.specs.Laws.{ChangesNothing}
+use Rattle.calls.specs.Calls.{PortReply}
+use Rattle.calls.specs.Screens.{onScreen}
+use Rattle.calls.proofs.Screens.{off-screen}
+use Rattle.calls.proofs.Refusals.{written-refuses, returned-refuses, restored-refuses}
 use Rattle.slots.specs.declared.Slot.{Slot}
 use Rattle.slots.specs.declared.Multiplexer.{Multiplexer}
-use Rattle.multiplexer.specs.declared.Status.the-variants.{Done, ScreenLength}
-use Rattle.slots.specs.State.{noSlot, slotAt, slotOf, hasClient, withPort}
-use Rattle.slots.specs.Valid.{validMultiplexer, ValidMultiplexer}
-use Rattle.multiplexer.specs.Calls.{statusOf, Reply, refusal, relayed, onClient, closeCall}
-use Rattle.isolation.specs.Isolation.{Kind, Call, consoleCall, serve}
+use Rattle.slots.specs.State.{noSlot, slotAt, withPort}
+use Rattle.slots.specs.Valid.{ValidMultiplexer}
+use Rattle.multiplexer.specs.Located.{clientSlot}
+use Rattle.multiplexer.specs.Calls.{MultiplexerReply, relayed, closeCall, closed}
+use Rattle.multiplexer.proofs.Replying.{by-slot}
+use Rattle.isolation.specs.Isolation.{Kind, Call, lentBlock, takesScreen, portCall, onClientSlot, serve}
 use Rattle.isolation.specs.Isolation.Kind.{Write, Return, Restore}
 use Rattle.isolation.proofs.Serving.{frame}
-
--- the console's calls, by kind
-console-refuses : (kind : Kind) (p : Port) (s block : List ℕ) → consoleTheorems.ChangesNothing p s block (consoleCall kind p s block)
-unfolding console.written console.blockReturned console.blockRestored
-console-refuses Write p s block = λ e. absurd (e refl)
-console-refuses Return p s block =
-    by-test (consoleTheorems.ChangesNothing p s block) (ltb (length block) (blockLength (p .view .viewport))) (λ _ e. refl) (λ _ e. absurd (e refl))
-console-refuses Restore p s block =
-    by-test (consoleTheorems.ChangesNothing p s block) (blockFits (p .view .viewport) block) (λ _ e. absurd (e refl)) (λ _ e. refl)
 
 -- a slot's own port put back
 pub port-again : (m : Multiplexer) (i : ℕ) → withPort m i (slotAt m i .port) ≡ m
 port-again m i = ap (λ (xs : List Slot). record { slots = xs }) (set-getD (m .slots) i noSlot)
 
-abbrev pub ChangesNothing : Multiplexer → List ℕ → List ℕ → Reply → Type 0
-ChangesNothing m s block r = (r .status ≡ Done → ⊥) → r ≡ refusal (r .status) m s block
+-- a call on a port, by kind
+port-refuses : (kind : Kind) (p : Port) (s : List ℕ) → ChangesNothing Done 0 p s (lentBlock kind) (portCall kind p s)
+port-refuses (Write bytes) p s = written-refuses p s bytes
+port-refuses (Return block) p s = returned-refuses p s block
+port-refuses (Restore block) p s = restored-refuses p s block
 
-relay-refuses : (m : Multiplexer) (i : ℕ) (s block : List ℕ) (r : console.Reply) → consoleTheorems.ChangesNothing (slotAt m i .port) s block r → ChangesNothing m s block (relayed m i r)
-relay-refuses m i s block r h e =
-    ap (relayed m i) (h (λ d. e (ap statusOf d))) ∙ ap (λ (x : Multiplexer). refusal (statusOf (r .status)) x s block) (port-again m i)
+module _ (m : Multiplexer) (s block : List ℕ) where
+  abbrev pub Unchanged : MultiplexerReply → Type 0
+  Unchanged = ChangesNothing Done 0 m s block
+
+  relay-refuses : (i : ℕ) (r : PortReply) → ChangesNothing Done 0 (slotAt m i .port) s block r → Unchanged (relayed m i r)
+  relay-refuses i r h e = ap (relayed m i) (h e) ∙ ap (λ (x : Multiplexer). refusal (r .status) x s block) (port-again m i)
+
+  pub screen-refuses : (reply : MultiplexerReply) → Unchanged reply → Unchanged (onScreen m s block reply)
+  unfolding onScreen
+  screen-refuses reply h = by-test Unchanged (isScreen (length s)) (λ _. h) (λ _ e. refl)
 
 -- 'a refused call changes no cell, no seat and no lent block'
-pub client-refuses : (call : Port → List ℕ → List ℕ → console.Reply) (m : Multiplexer) (s : List ℕ) (n : ℕ) (block : List ℕ)
-    → ((p : Port) → consoleTheorems.ChangesNothing p s block (call p s block)) → ChangesNothing m s block (onClient call m s n block)
-unfolding onClient
-client-refuses call m s n block h =
-    by-test (ChangesNothing m s block) (eqb (length s) 1920)
-    (λ _. by-test (ChangesNothing m s block) (validMultiplexer m)
-    (λ _. by-test (ChangesNothing m s block) (hasClient m n) (λ _. relay-refuses m (slotOf m n) s block _ (h (slotAt m (slotOf m n) .port))) (λ _ e. refl))
-    (λ _ e. refl))
-    (λ _ e. refl)
+pub serve-refuses : (m : Multiplexer) (s : List ℕ) (c : Call) → Unchanged m s (lentBlock (c .kind)) (serve m s c)
+unfolding serve
+serve-refuses m s c = by-test (Unchanged m s (lentBlock (c .kind))) (takesScreen (c .kind)) (λ _. screen-refuses m s (lentBlock (c .kind)) _ at-slot) (λ _. at-slot)
+  where
+    at-slot : Unchanged m s (lentBlock (c .kind)) (onClientSlot m s c)
+    at-slot = by-slot (Unchanged m s (lentBlock (c .kind))) m s (lentBlock (c .kind)) (clientSlot m (c .client)) _ (λ status _ e. refl) (λ i _. relay-refuses m s (lentBlock (c .kind)) i _ (port-refuses (c .kind) (slotAt m i .port) s))
 
-pub close-refuses : (m : Multiplexer) (n : ℕ) → ChangesNothing m [] [] (closeCall m n)
-unfolding closeCall
-close-refuses m n =
-    by-test (ChangesNothing m [] []) (validMultiplexer m)
-    (λ _. by-test (ChangesNothing m [] []) (hasClient m n) (λ _ e. absurd (e refl)) (λ _ e. refl))
-    (λ _ e. refl)
+pub close-refuses : (m : Multiplexer) (n : ℕ) → Unchanged m [] [] (closeCall m n)
+close-refuses m n = by-slot (Unchanged m [] []) m [] [] (clientSlot m n) (closed m) (λ status _ e. refl) (λ i _ e. absurd (e refl))
 
-pub serve-refuses : (m : Multiplexer) (s : List ℕ) (c : Call) → ChangesNothing m s (c .request .block) (serve m s c)
-serve-refuses m s c =
-    client-refuses (consoleCall (c .request .kind)) m s (c .client) (c .request .block) (λ p. console-refuses (c .request .kind) p s (c .request .block))
+-- a call that takes a screen is refused with 1 where the lent bytes are none
+refused-length : (m : Multiplexer) (s : List ℕ) (c : Call) → isScreen (length s) ≡ false → serve m s c ≡ refusal ScreenLength m s (lentBlock (c .kind))
+unfolding serve
+refused-length m s c e = by-kind (c .kind) refl
+  where
+    by-kind : (k : Kind) → c .kind ≡ k → serve m s c ≡ refusal ScreenLength m s (lentBlock (c .kind))
+    by-kind (Write bytes) is = rw is (off-screen m s bytes _ e)
+    by-kind (Return block) is = rw is (off-screen m s block _ e)
+    by-kind (Restore block) is = rw is (off-screen m s block _ e)
 
-refused-length : (m : Multiplexer) (s : List ℕ) (c : Call) → eqb (length s) 1920 ≡ false → serve m s c ≡ refusal ScreenLength m s (c .request .block)
-unfolding onClient
-refused-length m s c e = simp e
-
-pub serve-valid : (m : Multiplexer) (s : List ℕ) (c : Call) → ValidMultiplexer m → ValidMultiplexer (serve m s c .multiplexer)
-serve-valid m s c v = ⊎-elim (λ e. frame m s c v (eqb-true _ _ e) .valid) (λ e. rw (refused-length m s c e) v) (tested (eqb (length s) 1920))
+-- every call, refused or not, leaves a valid multiplexer
+pub serve-valid : (m : Multiplexer) (s : List ℕ) (c : Call) → ValidMultiplexer m → ValidMultiplexer (serve m s c .state)
+serve-valid m s c v = ⊎-elim (λ e. frame m s c v (decides-screen (length s) .holds e) .valid) (λ e. rw (refused-length m s c e) v) (tested (isScreen (length s)))

@@ -1,41 +1,46 @@
 -- A client's block, handed out and put straight back, changes nothing. Assumes nothing.
 use Prim.Native.Nat.{ℕ, _≤_}
-use mathlib.Core.Path.{_≡_, refl, ap, _∙_}
+use mathlib.Core.Path.{_≡_, ap, _∙_}
 use mathlib.Core.List.{List}
-use lib.Dec.{ltb}
 use lib.ListN.{length, take}
-use Rattle.laws.proofs.Tests.{by-test}
 use Rattle.block.specs.Block.{blockLength}
 use Rattle.port.specs.declared.Port.{Port}
 use Rattle.port.specs.Valid.{Valid}
-use Rattle.console.specs.Calls as console
-use Rattle.console.proofs.Answers.{accepted}
-use Rattle.console.proofs.Blocks.{block-round-trip}
+use Rattle.reply.specs.declared.Status.the-variants.{Done}
+use Rattle.reply.specs.Laws.{RoundTrip}
+use Rattle.calls.specs.Calls.{PortReply}
+use Rattle.calls.proofs.Blocks.{handedOut, handed-out, putBack, put-back}
 use Rattle.slots.specs.declared.Multiplexer.{Multiplexer}
-use Rattle.slots.specs.State.{slotAt, withPort}
-use Rattle.multiplexer.specs.Calls.{statusOf, returnCall, restoreCall}
+use Rattle.slots.specs.State.{slotAt}
+use Rattle.multiplexer.specs.Calls.{MultiplexerReply, relayed, returnCall, restoreCall}
+use Rattle.isolation.specs.Isolation.{serve}
 use Rattle.isolation.specs.Isolation.Kind.{Return, Restore}
-use Rattle.isolation.specs.Laws.{viewport, GoesTo, RoundTrip}
+use Rattle.isolation.specs.Laws.{viewport, GoesTo}
 use Rattle.isolation.proofs.Refusals.{port-again}
-use Rattle.isolation.proofs.Relaying.{one-call, next-call}
+use Rattle.isolation.proofs.Relaying.{one-call}
 
--- the console's return leaves port and screen
-return-leaves : (p : Port) (s block : List ℕ) → Valid p → length s ≡ 1920 → (console.returnCall p s block .port ≡ p) × (console.returnCall p s block .screen ≡ s)
-unfolding console.blockReturned
-return-leaves p s block v l =
-    rw (accepted console.blockReturned p s block v l)
-    (by-test (λ (r : console.Reply). (r .port ≡ p) × (r .screen ≡ s)) (ltb (length block) (blockLength (p .view .viewport))) (λ _. (refl, refl)) (λ _. (refl, refl)))
+-- the restore starts from the multiplexer, the screen and the front of the block that the return left
+abbrev pub restoreAfter : ℕ → MultiplexerReply → MultiplexerReply
+restoreAfter n r = restoreCall (r .state) (r .screen) n (take (r .result) (r .block))
+
+-- a reply that leaves slot i's port, said of the multiplexer as it was
+abbrev stillAt : Multiplexer → PortReply → MultiplexerReply
+stillAt m r = record { status = r .status; state = m; result = r .result; screen = r .screen; block = r .block }
 
 pub round-trip : (m : Multiplexer) (s : List ℕ) (n i : ℕ) (block : List ℕ) → GoesTo m s n i → blockLength (viewport m i) ≤ length block
-    → RoundTrip m s (returnCall m s n block) (restoreCall (returnCall m s n block .multiplexer) (returnCall m s n block .screen) n (take (returnCall m s n block .count) (returnCall m s n block .block)))
+    → RoundTrip Done m s (returnCall m s n block) (restoreAfter n (returnCall m s n block))
+unfolding serve
 round-trip m s n i block g room =
     let p : Port = slotAt m i .port in
-    let k = block-round-trip p s block (g .valid .ports i (g .is-open)) (g .len) room in
-    let idle = return-leaves p s block (g .valid .ports i (g .is-open)) (g .len) in
-    rw (next-call g Return Restore block _, one-call g Return block, idle .0, idle .1)
-    (record {
-      returned-done = ap statusOf (k .returned-done);
-      restored-done = ap statusOf (k .restored-done);
-      multiplexer = ap (withPort m i) (k .port) ∙ port-again m i;
-      screen = k .screen;
-    })
+    let v : Valid p = g .valid .ports i (g .is-open) in
+    let out : PortReply = handedOut p s block v (g .len) room in
+    let back : PortReply = putBack p s block v (g .len) room in
+    let returned : returnCall m s n block ≡ stillAt m out = one-call g (Return block) ∙ ap (relayed m i) (handed-out p s block v (g .len) room) ∙ rw (port-again m i) in
+    let again : restoreAfter n (returnCall m s n block) ≡ stillAt m back =
+    ap (restoreAfter n) returned ∙ one-call g (Restore (take (out .result) (out .block))) ∙ ap (relayed m i) (put-back p s block v (g .len) room) ∙ rw (port-again m i) in
+    record {
+      returned-done = ap (λ (r : MultiplexerReply). r .status) returned;
+      restored-done = ap (λ (r : MultiplexerReply). r .status) again;
+      state = ap (λ (r : MultiplexerReply). r .state) again;
+      screen = ap (λ (r : MultiplexerReply). r .screen) again;
+    }

@@ -2,13 +2,13 @@
 use Prim.Native.Nat.{ℕ, _≤_, _<_}
 use native.Mathlib.Omega.{arith}
 use mathlib.Core.Path.{_≡_, sym, ap, _∙_}
-use mathlib.Core.Bool.{Bool, cond}
+use mathlib.Core.Bool.{Bool, cond, not}
 use mathlib.Core.Logic.{_⊎_, inl, inr, ⊎-elim}
 use mathlib.Core.List.{List, [], _∷_}
-use Rattle.laws.proofs.Tests.{not-both, by-test, Decides}
-use Rattle.multiplexer.specs.declared.Status.{Status}
-use Rattle.multiplexer.specs.declared.Status.the-variants.{Done}
-use Rattle.multiplexer.specs.Calls.{numberOf}
+use Rattle.laws.proofs.Tests.{tested, not-both, by-test, Decides}
+use Rattle.reply.specs.declared.Status.{Status}
+use Rattle.reply.specs.declared.Status.the-variants.{Done}
+use Rattle.reply.specs.Numbers.{numberOf}
 use Rattle.isolation.specs.Laws.{Each, Rising, Answers}
 
 -- the status of the first rule that applies, or Done
@@ -31,6 +31,11 @@ module _ {applies : Status → Type 0} {A : Type 0} (f : A → Status) {x : Stat
   pub refused-unless : {P : Type 0} → Decides t P → ((P → ⊥) → applies x) → (P → applies x → ⊥) → f b ≡ x → (P → First applies (f a) xs) → First applies (f (cond t a b)) (x ∷ xs)
   refused-unless d to from e rest =
       by-test (λ r. First applies (f r) (x ∷ xs)) t (λ k. later (from (d .holds k)) (rest (d .holds k))) (λ k. here (to (λ p. not-both (d .passes p) k)) e)
+
+  -- .. of a test that is negated
+  pub refused-not : {P : Type 0} → Decides t P → ((P → ⊥) → applies x) → (P → applies x → ⊥) → f b ≡ x → (P → First applies (f a) xs) → First applies (f (cond (not t) b a)) (x ∷ xs)
+  refused-not d to from e rest =
+      ⊎-elim (λ k. rw k (later (from (d .holds k)) (rest (d .holds k)))) (λ k. rw k (here (to (λ p. not-both (d .passes p) k)) e)) (tested t)
 
 -- ---- each status exactly then
 module _ (applies : Status → Type 0) (given : Status) where

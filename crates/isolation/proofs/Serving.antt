@@ -4,21 +4,24 @@ use mathlib.Core.Path.{_≡_, refl, sym, ap, _∙_}
 use mathlib.Core.Logic.{⊎-elim}
 use mathlib.Core.List.{List}
 use lib.ListN.{length, getD}
-use borrow.Author.Tests.{eq-eqb}
 use Rattle.rectangle.specs.Cells.{Inside}
 use Rattle.port.specs.declared.Port.{Port}
 use Rattle.port.specs.Valid.{Valid}
 use Rattle.slots.specs.declared.Slot.{Slot}
 use Rattle.slots.specs.declared.Multiplexer.{Multiplexer}
-use Rattle.multiplexer.specs.declared.Status.the-variants.{NotOpen}
+use Rattle.reply.specs.declared.Status.the-variants.{NotOpen}
+use Rattle.reply.specs.Reply.{refusal}
+use Rattle.calls.proofs.Screens.{on-screen}
 use Rattle.slots.specs.State.{slotAt, pane, Open, withPort, Closed}
 use Rattle.slots.specs.Valid.{ValidMultiplexer}
-use Rattle.multiplexer.specs.Calls.{Reply, refusal, relayed, onClient}
-use Rattle.isolation.specs.Isolation.{Call, consoleCall, serve}
-use Rattle.laws.proofs.Tests.{fails}
-use Rattle.slots.proofs.Validity.{decides-multiplexer}
+use Rattle.multiplexer.specs.Located.{clientSlot}
+use Rattle.multiplexer.specs.Calls.{MultiplexerReply, relayed}
+use Rattle.multiplexer.proofs.Clients.{goes-to-slot, goes-nowhere}
+use Rattle.multiplexer.proofs.Replying.{at-slot, at-refusal}
+use Rattle.isolation.specs.Isolation.{Kind, Call, lentBlock, portCall, onClientSlot, serve}
+use Rattle.isolation.specs.Isolation.Kind.{Write, Return, Restore}
 use Rattle.isolation.proofs.Consoles.{keeps-call}
-use Rattle.slots.proofs.Slots.{decides-client, client?, slot-open, slot-kept, at-place, set-valid}
+use Rattle.slots.proofs.Slots.{client?, slot-kept, at-place, set-valid}
 
 -- the same clients and panes
 pub record SameLabels (a b : Multiplexer) : Type 0 where
@@ -41,30 +44,38 @@ module _ (m : Multiplexer) (v : ValidMultiplexer m) (i : ℕ) (o : Open m i) (p 
       }
 
 -- what any call of client n keeps
-pub record Frame (m : Multiplexer) (s : List ℕ) (n : ℕ) (r : Reply) : Type 0 where
-  pub valid : ValidMultiplexer (r .multiplexer)
+pub record Frame (m : Multiplexer) (s : List ℕ) (n : ℕ) (r : MultiplexerReply) : Type 0 where
+  pub valid : ValidMultiplexer (r .state)
   pub len : length (r .screen) ≡ 1920
-  pub labels : SameLabels (r .multiplexer) m
-  pub slots : (i : ℕ) → (Open m i → slotAt m i .client ≡ n → ⊥) → slotAt (r .multiplexer) i ≡ slotAt m i
+  pub labels : SameLabels (r .state) m
+  pub slots : (i : ℕ) → (Open m i → slotAt m i .client ≡ n → ⊥) → slotAt (r .state) i ≡ slotAt m i
   pub cells : (k : ℕ) → ((i : ℕ) → Open m i → slotAt m i .client ≡ n → Inside (pane m i) k → ⊥) → getD (r .screen) k 0 ≡ getD s k 0
+
+-- with 1,920 cells no kind of call is refused with 1
+pub on-cells : (m : Multiplexer) (s : List ℕ) (c : Call) → length s ≡ 1920 → serve m s c ≡ onClientSlot m s c
+unfolding serve
+on-cells m s c l = by-kind (c .kind) refl
+  where
+    by-kind : (k : Kind) → c .kind ≡ k → serve m s c ≡ onClientSlot m s c
+    by-kind (Write bytes) e = rw e (on-screen m s bytes _ l)
+    by-kind (Return block) e = rw e (on-screen m s block _ l)
+    by-kind (Restore block) e = rw e (on-screen m s block _ l)
 
 module _ (m : Multiplexer) (s : List ℕ) (c : Call) (v : ValidMultiplexer m) (l : length s ≡ 1920) where
   -- a client with no open slot
-  pub turned-away : Closed m (c .client) → serve m s c ≡ refusal NotOpen m s (c .request .block)
-  unfolding onClient
-  turned-away h = simp (eq-eqb _ _ l, decides-multiplexer m .passes v, fails (decides-client m (c .client)) (λ k. h (k .0) (k .1) (k .2)))
+  pub turned-away : Closed m (c .client) → serve m s c ≡ refusal NotOpen m s (lentBlock (c .kind))
+  turned-away h = on-cells m s c l ∙ at-refusal m s (lentBlock (c .kind)) _ _ NotOpen (goes-nowhere m (c .client) v h)
 
   -- a client with an open slot
-  pub goes-to : (i : ℕ) → Open m i → slotAt m i .client ≡ c .client → serve m s c ≡ relayed m i (consoleCall (c .request .kind) (slotAt m i .port) s (c .request .block))
-  unfolding onClient
-  goes-to i o e = simp (eq-eqb _ _ l, decides-multiplexer m .passes v, decides-client m (c .client) .passes (i, o, e), slot-open m v i (c .client) o e)
+  pub goes-to : (i : ℕ) → Open m i → slotAt m i .client ≡ c .client → serve m s c ≡ relayed m i (portCall (c .kind) (slotAt m i .port) s)
+  goes-to i o e = on-cells m s c l ∙ at-slot m s (lentBlock (c .kind)) _ _ i (goes-to-slot m (c .client) v i o e)
 
   pub frame : Frame m s (c .client) (serve m s c)
   frame =
       ⊎-elim
       (λ f. let i = f .0 in
       let o = f .1 in
-      let k = keeps-call (slotAt m i .port) (v .ports i o) (c .request .block) (c .request .kind) s l in
+      let k = keeps-call (slotAt m i .port) (v .ports i o) (c .kind) s l in
       rw (goes-to i o (f .2))
       (record {
         valid = port-valid m v i o _ (k .home) (k .valid);

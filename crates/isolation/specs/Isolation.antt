@@ -1,31 +1,53 @@
 -- Demand 3: whatever the other clients sent, each open client is as on a standalone console. Paper 01, 'Demand 3: the lone bench'. Assumes nothing.
 use Prim.Native.Nat.{ℕ}
 use mathlib.Core.Path.{_≡_}
-use mathlib.Core.Bool.{true, cond}
+use mathlib.Core.Bool.{Bool, true, cond}
 use mathlib.Core.List.{List, [], _∷_, _++_, map}
 use lib.Dec.{eqb}
 use lib.ListN.{length, getD}
 use Rattle.rectangle.specs.Cells.{Inside}
 use Rattle.rectangle.specs.Local.{Agree}
 use Rattle.port.specs.declared.Port.{Port}
-use Rattle.console.specs.Calls as console
+use Rattle.reply.specs.declared.Status.{Status}
+use Rattle.reply.specs.Numbers.{numberOf}
+use Rattle.reply.specs.Reply.{Reply}
+use Rattle.calls.specs.Calls.{PortReply, written, blockReturned, blockRestored}
+use Rattle.calls.specs.Screens.{onScreen}
 use Rattle.slots.specs.declared.Multiplexer.{Multiplexer}
 use Rattle.slots.specs.State.{slotAt, pane, Open, Free, Closed}
 use Rattle.slots.specs.Valid.{validMultiplexer}
-use Rattle.multiplexer.specs.Calls.{numberOf, Reply, onClient}
+use Rattle.multiplexer.specs.Located.{clientSlot}
+use Rattle.multiplexer.specs.Calls.{MultiplexerReply, onSlot, relayed, writeCall, returnCall, restoreCall}
 
+-- a call's 'kind and arguments without the wall and screen'. 'A block is lent to one call only.'
 pub data Kind : Type 0 where
-  Write Return Restore : Kind
+  Write Return Restore : List ℕ → Kind
 
--- 'each one's kind and arguments without the wall and screen': a block is lent to one call only
-pub record Request : Type 0 where
-  pub kind : Kind
-  pub block : List ℕ
+-- the bytes that are lent to the call besides the screen
+abbrev pub lentBlock : Kind → List ℕ
+lentBlock (Write bytes) = bytes
+lentBlock (Return block) = block
+lentBlock (Restore block) = block
+
+-- whether the call takes a screen
+abbrev pub takesScreen : Kind → Bool
+takesScreen (Write bytes) = true
+takesScreen (Return block) = true
+takesScreen (Restore block) = true
+
+-- what the call does to a valid port and 1,920 cells
+abbrev pub portCall : Kind → Port → List ℕ → PortReply
+portCall (Write bytes) p s = written p s bytes
+portCall (Return block) p s = blockReturned p s block
+portCall (Restore block) p s = blockRestored p s block
 
 -- a call by client
 pub record Call : Type 0 where
   pub client : ℕ
-  pub request : Request
+  pub kind : Kind
+
+abbrev pub callBy : ℕ → Kind → Call
+callBy n kind = record { client = n; kind = kind }
 
 -- 'a call's answer is all that it hands back besides wall and screen: number, count and its lent block's bytes'
 pub record Answer : Type 0 where
@@ -33,22 +55,26 @@ pub record Answer : Type 0 where
   pub count : ℕ
   pub block : List ℕ
 
--- the console's call of a kind
-abbrev pub consoleCall : Kind → Port → List ℕ → List ℕ → console.Reply
-consoleCall Write = console.written
-consoleCall Return = console.blockReturned
-consoleCall Restore = console.blockRestored
+abbrev pub answerOf : {State : Type 0} → Reply Status State ℕ → Answer
+answerOf r = record { number = numberOf (r .status); count = r .result; block = r .block }
 
 -- ---- the multiplexer, fed a list of calls
 -- what serves one call: `serve`, or another that is held to the same demand
 abbrev pub Server : Type 0
-Server = Multiplexer → List ℕ → Call → Reply
+Server = Multiplexer → List ℕ → Call → MultiplexerReply
 
-abbrev pub serve : Server
-serve m s c = onClient (consoleCall (c .request .kind)) m s (c .client) (c .request .block)
+-- 2, then 8, and else the call on the port of the client's slot; 1 before them where the call takes a screen
+abbrev pub onClientSlot : Server
+onClientSlot m s c = onSlot m s (lentBlock (c .kind)) (clientSlot m (c .client)) (λ i. relayed m i (portCall (c .kind) (slotAt m i .port) s))
 
-abbrev pub answerOf : Reply → Answer
-answerOf r = record { number = numberOf (r .status); count = r .count; block = r .block }
+unfoldable pub serve : Server
+serve m s c = cond (takesScreen (c .kind)) (onScreen m s (lentBlock (c .kind)) (onClientSlot m s c)) (onClientSlot m s c)
+
+-- the calls that the multiplexer's contracts cite
+pub record ServesCalls (f : Server) : Type 0 where
+  pub write : (m : Multiplexer) (s : List ℕ) (n : ℕ) (bytes : List ℕ) → f m s (callBy n (Write bytes)) ≡ writeCall m s n bytes
+  pub return : (m : Multiplexer) (s : List ℕ) (n : ℕ) (block : List ℕ) → f m s (callBy n (Return block)) ≡ returnCall m s n block
+  pub restore : (m : Multiplexer) (s : List ℕ) (n : ℕ) (block : List ℕ) → f m s (callBy n (Restore block)) ≡ restoreCall m s n block
 
 pub record Served : Type 0 where
   pub multiplexer : Multiplexer
@@ -59,31 +85,28 @@ pub record Served : Type 0 where
 unfoldable pub serveAll : Server → Multiplexer → List ℕ → List Call → Served
 serveAll f m s [] = record { multiplexer = m; screen = s; answers = [] }
 serveAll f m s (c ∷ cs) =
-    let r : Reply = f m s c in
-    let rest : Served = serveAll f (r .multiplexer) (r .screen) cs in
+    let r : MultiplexerReply = f m s c in
+    let rest : Served = serveAll f (r .state) (r .screen) cs in
     record { multiplexer = rest .multiplexer; screen = rest .screen; answers = answerOf r ∷ rest .answers }
 
 -- ---- the standalone console, the paper's lone bench: 'its state is a port and 1,920 cells'. It knows no slot and no client.
-abbrev pub consoleAnswer : console.Reply → Answer
-consoleAnswer r = record { number = console.numberOf (r .status); count = r .count; block = r .block }
-
 pub record Standalone : Type 0 where
   pub port : Port
   pub screen : List ℕ
   pub answers : List Answer
 
-unfoldable pub standalone : Port → List ℕ → List Request → Standalone
+unfoldable pub standalone : Port → List ℕ → List Kind → Standalone
 standalone p s [] = record { port = p; screen = s; answers = [] }
-standalone p s (q ∷ qs) =
-    let r : console.Reply = consoleCall (q .kind) p s (q .block) in
-    let rest : Standalone = standalone (r .port) (r .screen) qs in
-    record { port = rest .port; screen = rest .screen; answers = consoleAnswer r ∷ rest .answers }
+standalone p s (k ∷ ks) =
+    let r : PortReply = portCall k p s in
+    let rest : Standalone = standalone (r .state) (r .screen) ks in
+    record { port = rest .port; screen = rest .screen; answers = answerOf r ∷ rest .answers }
 
 -- ---- which calls are whose
 -- 'the calls with that seat's number, in their order'
-unfoldable pub requestsOf : ℕ → List Call → List Request
-requestsOf n [] = []
-requestsOf n (c ∷ cs) = cond (eqb (c .client) n) (c .request ∷ requestsOf n cs) (requestsOf n cs)
+unfoldable pub callsOf : ℕ → List Call → List Kind
+callsOf n [] = []
+callsOf n (c ∷ cs) = cond (eqb (c .client) n) (c .kind ∷ callsOf n cs) (callsOf n cs)
 
 -- the answers to them, in their order
 unfoldable pub answersTo : ℕ → List Call → List Answer → List Answer
@@ -92,12 +115,12 @@ answersTo n (c ∷ cs) [] = []
 answersTo n (c ∷ cs) (a ∷ xs) = cond (eqb (c .client) n) (a ∷ answersTo n cs xs) (answersTo n cs xs)
 
 -- '8, count 0, the block as it came'
-abbrev pub notOpen : Request → Answer
-notOpen q = record { number = 8; count = 0; block = q .block }
+abbrev pub notOpen : Kind → Answer
+notOpen k = record { number = 8; count = 0; block = lentBlock k }
 
 -- slot i's standalone console: 'at first that seat's port and the starting screen', and 'fed the calls with that seat's number'
 abbrev pub consoleOf : Multiplexer → List ℕ → List Call → ℕ → Standalone
-consoleOf m s cs i = standalone (slotAt m i .port) s (requestsOf (slotAt m i .client) cs)
+consoleOf m s cs i = standalone (slotAt m i .port) s (callsOf (slotAt m i .client) cs)
 
 -- ---- the demand, for one list of calls
 pub record Isolated (f : Server) (m : Multiplexer) (s : List ℕ) (cs : List Call) : Type 0 where
@@ -110,7 +133,7 @@ pub record Isolated (f : Server) (m : Multiplexer) (s : List ℕ) (cs : List Cal
   -- each call has one answer
   pub each-answered : length (serveAll f m s cs .answers) ≡ length cs
   -- 'a call for a number that isn't open answers 8 ..
-  pub answers-8 : (n : ℕ) → Closed m n → answersTo n cs (serveAll f m s cs .answers) ≡ map notOpen (requestsOf n cs)
+  pub answers-8 : (n : ℕ) → Closed m n → answersTo n cs (serveAll f m s cs .answers) ≡ map notOpen (callsOf n cs)
   -- .. and changes nothing', wherever it stands in the list
   pub changes-nothing : (before after : List Call) (c : Call) → cs ≡ before ++ (c ∷ after) → Closed m (c .client)
       → (serveAll f m s (before ++ (c ∷ [])) .multiplexer ≡ serveAll f m s before .multiplexer) × (serveAll f m s (before ++ (c ∷ [])) .screen ≡ serveAll f m s before .screen)
@@ -133,4 +156,4 @@ pub record Isolation (f : Server) : Type 0 where
   pub isolated : (m : Multiplexer) (s : List ℕ) (cs : List Call) → validMultiplexer m ≡ true → length s ≡ 1920 → Isolated f m s cs
   -- 'any two such lists from the same start that hold, for each number, the same calls in the same order'
   pub same-end : (m : Multiplexer) (s : List ℕ) (cs ds : List Call) → validMultiplexer m ≡ true → length s ≡ 1920
-      → ((n : ℕ) → requestsOf n cs ≡ requestsOf n ds) → SameEnd f m s cs ds
+      → ((n : ℕ) → callsOf n cs ≡ callsOf n ds) → SameEnd f m s cs ds

@@ -1,5 +1,5 @@
--- What is claimed of the calls by client, each on its own: when each status is given; a stream cut in two; a block put straight back. Assumes nothing.
-use Prim.Native.Nat.{ℕ, _+_, _≤_, _<_}
+-- What is claimed of the calls by client, each on its own: when each status is given. Assumes nothing.
+use Prim.Native.Nat.{ℕ, _≤_, _<_}
 use mathlib.Core.Path.{_≡_}
 use mathlib.Core.List.{List, [], _∷_}
 use lib.ListN.{length, getD}
@@ -8,11 +8,12 @@ use Rattle.rectangle.specs.Cells.{Inside}
 use Rattle.rectangle.specs.Rectangles.{widthOf, heightOf, Legal}
 use Rattle.block.specs.Block.{blockLength}
 use Rattle.slots.specs.declared.Multiplexer.{Multiplexer}
-use Rattle.multiplexer.specs.declared.Status.{Status}
-use Rattle.multiplexer.specs.declared.Status.the-variants.{Done, ScreenLength, Invalid, ClientZero, PaneIllegal, ClientTaken, PaneShared, Full, NotOpen, BlockTooShort, BlockMismatch}
+use Rattle.reply.specs.declared.Status.{Status}
+use Rattle.reply.specs.declared.Status.the-variants.{Done, ScreenLength, Invalid, ClientZero, PaneIllegal, ClientTaken, PaneShared, Full, NotOpen, BlockTooShort, BlockMismatch}
 use Rattle.slots.specs.State.{slotAt, pane, Open, Free, Closed}
 use Rattle.slots.specs.Valid.{ValidMultiplexer}
-use Rattle.multiplexer.specs.Calls.{numberOf, Reply, writeCall, returnCall, restoreCall, openCall, closeCall}
+use Rattle.reply.specs.Numbers.{numberOf}
+use Rattle.multiplexer.specs.Calls.{writeCall, returnCall, restoreCall, openCall, closeCall}
 
 -- ---- when each status is given
 abbrev pub viewport : Multiplexer → ℕ → Rect
@@ -100,19 +101,3 @@ pub record SlotStatuses (m : Multiplexer) (s : List ℕ) (n : ℕ) (block : List
   pub return-short : Exactly (returnCall m s n block .status) BlockTooShort (length block < blockLength (viewport m i))
   pub restore-done : Exactly (restoreCall m s n block .status) Done (Fits (viewport m i) block)
   pub restore-mismatch : Exactly (restoreCall m s n block .status) BlockMismatch (Fits (viewport m i) block → ⊥)
-
--- ---- demand 2, of writes, and of a return and a restore; the second gets the multiplexer and the screen that the first left
--- 'cutting a stream anywhere, even inside a command, gives the same end and bell counts that add up to the same'
-pub record SameCut (first second whole : Reply) : Type 0 where
-  pub first-status : first .status ≡ whole .status
-  pub second-status : second .status ≡ whole .status
-  pub multiplexer : second .multiplexer ≡ whole .multiplexer
-  pub screen : second .screen ≡ whole .screen
-  pub count : first .count + second .count ≡ whole .count
-
--- 'a port's block of text, handed out and put straight back, changes nothing'
-pub record RoundTrip (m : Multiplexer) (s : List ℕ) (returned again : Reply) : Type 0 where
-  pub returned-done : returned .status ≡ Done
-  pub restored-done : again .status ≡ Done
-  pub multiplexer : again .multiplexer ≡ m
-  pub screen : again .screen ≡ s

@@ -1,107 +1,61 @@
--- Paper 01, 'What comes back': the calls by client. Assumes nothing.
+-- Paper 01, 'What comes back': the calls by client. 'Open: 1 to 7. Close: 2, 8. Write: 1, 2, 8. Return: 1, 2, 8, 9. Restore: 1, 2, 8, 10.' Assumes nothing.
 use Prim.Native.Nat.{ℕ}
-use mathlib.Core.Bool.{cond}
 use mathlib.Core.List.{List, []}
-use lib.Dec.{ltb, eqb}
-use lib.ListN.{length}
 use Rattle.rectangle.specs.declared.Rect.{Rect}
 use Rattle.rectangle.specs.declared.Motion.the-variants.{Clear}
 use Rattle.rectangle.specs.Edit.{edited}
-use Rattle.port.specs.declared.Port.{Port}
-use Rattle.rectangle.specs.Rectangles.{legal}
-use Rattle.console.specs.declared.Status as consoleStatus
-use Rattle.console.specs.Calls as console
+use Rattle.reply.specs.declared.Status.{Status}
+use Rattle.reply.specs.declared.Status.the-variants.{Done}
+use Rattle.reply.specs.Reply.{Reply, refusal}
+use Rattle.calls.specs.Calls.{PortReply, PortCall, written, blockReturned, blockRestored}
+use Rattle.calls.specs.Screens.{onScreen}
 use Rattle.slots.specs.declared.Multiplexer.{Multiplexer}
-use Rattle.multiplexer.specs.declared.Status.{Status}
-use Rattle.multiplexer.specs.declared.Status.the-variants.{Done, ScreenLength, Invalid, ClientZero, PaneIllegal, ClientTaken, PaneShared, Full, NotOpen, BlockTooShort, BlockMismatch}
-use Rattle.slots.specs.State.{freeSlot, slotAt, slotOf, hasClient, withSlot, withPort, freshSlot}
-use Rattle.slots.specs.Valid.{validMultiplexer}
-use Rattle.slots.specs.Panes.{paneShared}
+use Rattle.slots.specs.State.{freeSlot, slotAt, withSlot, withPort, freshSlot}
+use Rattle.multiplexer.specs.declared.Answer.{Answer}
+use Rattle.multiplexer.specs.declared.Located.{Located}
+use Rattle.multiplexer.specs.declared.Located.the-variants.{Refused, At}
+use Rattle.multiplexer.specs.Located.{clientSlot, claimSlot}
 
--- the table's 'no.'
-abbrev pub numberOf : Status → ℕ
-numberOf Done = 0
-numberOf ScreenLength = 1
-numberOf Invalid = 2
-numberOf ClientZero = 3
-numberOf PaneIllegal = 4
-numberOf ClientTaken = 5
-numberOf PaneShared = 6
-numberOf Full = 7
-numberOf NotOpen = 8
-numberOf BlockTooShort = 9
-numberOf BlockMismatch = 10
+-- what a call by client leaves; its result is a count
+abbrev pub MultiplexerReply : Type 0
+MultiplexerReply = Reply Status Multiplexer ℕ
 
--- the status of the same number
-abbrev pub statusOf : consoleStatus.Status → Status
-statusOf consoleStatus.the-variants.Done = Done
-statusOf consoleStatus.the-variants.ScreenLength = ScreenLength
-statusOf consoleStatus.the-variants.InvalidPort = Invalid
-statusOf consoleStatus.the-variants.BlockTooShort = BlockTooShort
-statusOf consoleStatus.the-variants.BlockMismatch = BlockMismatch
+-- the refusal, or the reply at the slot
+unfoldable pub onSlot : Multiplexer → List ℕ → List ℕ → Located → (ℕ → MultiplexerReply) → MultiplexerReply
+onSlot m s block (Refused status) reply = refusal status m s block
+onSlot m s block (At i) reply = reply i
 
--- all that a call leaves: what it hands back, and the bytes lent to it
-pub record Reply : Type 0 where
-  pub status : Status
-  pub multiplexer : Multiplexer
-  pub count : ℕ
-  pub screen : List ℕ
-  pub block : List ℕ
+-- what a call on the port of slot i leaves
+abbrev pub relayed : Multiplexer → ℕ → PortReply → MultiplexerReply
+relayed m i r = record { status = r .status; state = withPort m i (r .state); result = r .result; screen = r .screen; block = r .block }
 
--- 'a refusal hands back the .. wall as it came, a count of 0, and every lent byte as it came'
-abbrev pub refusal : Status → Multiplexer → List ℕ → List ℕ → Reply
-refusal status m s block = record { status = status; multiplexer = m; count = 0; screen = s; block = block }
+-- a call on a client's port: 2, then 8, and else what it does there, with its 9 and 10
+abbrev pub onClient : PortCall → Multiplexer → List ℕ → ℕ → List ℕ → MultiplexerReply
+onClient call m s n block = onSlot m s block (clientSlot m n) (λ i. relayed m i (call (slotAt m i .port) s block))
 
--- what a console makes of slot i's port
-abbrev pub relayed : Multiplexer → ℕ → console.Reply → Reply
-relayed m i r = record { status = statusOf (r .status); multiplexer = withPort m i (r .port); count = r .count; screen = r .screen; block = r .block }
+-- the three of them take a screen: 1 before the rest
+abbrev pub writeCall : Multiplexer → List ℕ → ℕ → List ℕ → MultiplexerReply
+writeCall m s n bytes = onScreen m s bytes (onClient written m s n bytes)
 
--- a call on a client's port: 1, then 2, then 8, and else what the console does, with its 9 and 10: 'the smallest number that the call can give is given'
-unfoldable pub onClient : (Port → List ℕ → List ℕ → console.Reply) → Multiplexer → List ℕ → ℕ → List ℕ → Reply
-onClient call m s n block =
-    cond (eqb (length s) 1920)
-    (cond (validMultiplexer m)
-    (cond (hasClient m n) (relayed m (slotOf m n) (call (slotAt m (slotOf m n) .port) s block))
-    (refusal NotOpen m s block))
-    (refusal Invalid m s block))
-    (refusal ScreenLength m s block)
+abbrev pub returnCall : Multiplexer → List ℕ → ℕ → List ℕ → MultiplexerReply
+returnCall m s n block = onScreen m s block (onClient blockReturned m s n block)
 
-abbrev pub writeCall : Multiplexer → List ℕ → ℕ → List ℕ → Reply
-writeCall = onClient console.written
+abbrev pub restoreCall : Multiplexer → List ℕ → ℕ → List ℕ → MultiplexerReply
+restoreCall m s n block = onScreen m s block (onClient blockRestored m s n block)
 
-abbrev pub returnCall : Multiplexer → List ℕ → ℕ → List ℕ → Reply
-returnCall = onClient console.blockReturned
+-- what an opening leaves at its slot: it 'takes the lowest free seat, starts a fresh port and blanks the pane'. A blank is $A0. No block is lent.
+abbrev pub opened : Multiplexer → List ℕ → ℕ → Rect → ℕ → MultiplexerReply
+opened m s n pane i = record { status = Done; state = withSlot m i (freshSlot n pane); result = 0; screen = edited pane Clear 0xa0 s; block = [] }
 
-abbrev pub restoreCall : Multiplexer → List ℕ → ℕ → List ℕ → Reply
-restoreCall = onClient console.blockRestored
+abbrev pub openCall : Multiplexer → List ℕ → ℕ → Rect → MultiplexerReply
+openCall m s n pane = onScreen m s [] (onSlot m s [] (claimSlot m n pane) (opened m s n pane))
 
--- 'open: 1 to 7', for a screen of this length
-unfoldable pub openStatus : Multiplexer → ℕ → ℕ → Rect → Status
-openStatus m size n pane =
-    cond (eqb size 1920)
-    (cond (validMultiplexer m)
-    (cond (eqb n 0) ClientZero
-    (cond (legal pane)
-    (cond (hasClient m n) ClientTaken
-    (cond (paneShared m pane) PaneShared
-    (cond (ltb (slotOf m 0) 4) Done Full)))
-    PaneIllegal))
-    Invalid)
-    ScreenLength
+-- what a closing leaves: it 'sets every field of the seat to 0 or false .. and changes no cell'. No screen is lent, and no block.
+abbrev pub closed : Multiplexer → ℕ → MultiplexerReply
+closed m i = record { status = Done; state = withSlot m i freeSlot; result = 0; screen = []; block = [] }
 
--- what an opening leaves that is not refused: it 'takes the lowest free seat, starts a fresh port and blanks the pane'. A blank is $A0. No block is lent.
-abbrev pub opened : Multiplexer → List ℕ → ℕ → Rect → Reply
-opened m s n pane = record { status = Done; multiplexer = withSlot m (slotOf m 0) (freshSlot n pane); count = 0; screen = edited pane Clear 0xa0 s; block = [] }
+abbrev pub closeCall : Multiplexer → ℕ → MultiplexerReply
+closeCall m n = onSlot m [] [] (clientSlot m n) (closed m)
 
-unfoldable pub openCall : Multiplexer → List ℕ → ℕ → Rect → Reply
-openCall m s n pane =
-    let status : Status = openStatus m (length s) n pane in
-    cond (eqb (numberOf status) 0) (opened m s n pane) (refusal status m s [])
-
--- 'close: 2, 8'. It 'sets every field of the seat to 0 or false .. and changes no cell': no screen is lent, and no block.
-unfoldable pub closeCall : Multiplexer → ℕ → Reply
-closeCall m n =
-    cond (validMultiplexer m)
-    (cond (hasClient m n) (record { status = Done; multiplexer = withSlot m (slotOf m n) freeSlot; count = 0; screen = []; block = [] })
-    (refusal NotOpen m [] []))
-    (refusal Invalid m [] [])
+abbrev pub answerOf : Status → Multiplexer → ℕ → Answer
+answerOf status m count = record { status = status; multiplexer = m; count = count }

@@ -1,42 +1,41 @@
--- The refusals that the calls by client share, as the code finds them; and what a call promises. Assumes nothing.
+-- Paper 01, 'What comes back': why a call by client is refused before it starts, or the slot that it goes to. 'Where several apply, the smallest number that the call can give is given'. Assumes nothing.
 use Prim.Native.Nat.{ℕ}
-use mathlib.Core.Path.{_≡_}
-use mathlib.Core.Bool.{Bool, cond}
-use mathlib.Core.List.{List}
-use lib.Dec.{eqb}
+use mathlib.Core.Bool.{cond, not}
+use lib.Dec.{leb, eqb}
+use Rattle.rectangle.specs.declared.Rect.{Rect}
+use Rattle.rectangle.specs.Rectangles.{legal}
+use Rattle.screen.specs.Size.{isScreen}
+use Rattle.reply.specs.declared.Status.the-variants.{ScreenLength, Invalid, ClientZero, PaneIllegal, ClientTaken, PaneShared, Full, NotOpen}
 use Rattle.slots.specs.declared.Multiplexer.{Multiplexer}
-use Rattle.multiplexer.specs.declared.Answer.{Answer}
-use Rattle.multiplexer.specs.declared.Located.{Located}
-use Rattle.multiplexer.specs.declared.Located.the-variants.{Refused, At}
-use Rattle.multiplexer.specs.declared.Status.{Status}
-use Rattle.multiplexer.specs.declared.Status.the-variants.{Done, ScreenLength, Invalid, ClientZero, PaneIllegal, ClientTaken, PaneShared, Full, NotOpen}
 use Rattle.slots.specs.State.{slotOf, hasClient}
 use Rattle.slots.specs.Valid.{validMultiplexer}
-use Rattle.multiplexer.specs.Calls.{Reply}
+use Rattle.slots.specs.Panes.{paneShared}
+use Rattle.multiplexer.specs.declared.Located.{Located}
+use Rattle.multiplexer.specs.declared.Located.the-variants.{Refused, At}
 
--- refusal 2, then 8, and else the place of the client's slot
-unfoldable pub locatedSlot : Multiplexer → ℕ → Located
-locatedSlot m n = cond (validMultiplexer m) (cond (hasClient m n) (At (slotOf m n)) (Refused NotOpen)) (Refused Invalid)
+-- a call for an open client: 2 if 'the .. wall handed in is not sound', 8 if 'no open seat has this number', and else the client's slot
+unfoldable pub clientSlot : Multiplexer → ℕ → Located
+clientSlot m n =
+    cond (not (validMultiplexer m)) (Refused Invalid)
+    (cond (not (hasClient m n)) (Refused NotOpen)
+    (At (slotOf m n)))
 
--- refusal 1 before them
-unfoldable pub locatedOn : Multiplexer → ℕ → ℕ → Located
-locatedOn m size n = cond (eqb size 1920) (locatedSlot m n) (Refused ScreenLength)
+-- a claim of a slot: 5 to 7, by what is open, and else 'the lowest free seat'
+unfoldable pub freeSlotFor : Multiplexer → ℕ → Rect → Located
+freeSlotFor m n pane =
+    cond (hasClient m n) (Refused ClientTaken)
+    (cond (paneShared m pane) (Refused PaneShared)
+    (cond (leb 4 (slotOf m 0)) (Refused Full)
+    (At (slotOf m 0))))
 
-abbrev pub answerWith : Status → Multiplexer → ℕ → Answer
-answerWith status m count = record { status = status; multiplexer = m; count = count }
+-- .. and before them 2, 3 and 4
+unfoldable pub claimSlot : Multiplexer → ℕ → Rect → Located
+claimSlot m n pane =
+    cond (not (validMultiplexer m)) (Refused Invalid)
+    (cond (eqb n 0) (Refused ClientZero)
+    (cond (not (legal pane)) (Refused PaneIllegal)
+    (freeSlotFor m n pane)))
 
--- refusals 4 to 7 of an opening, by the answer to each question
-abbrev pub claimRefusal : Bool → Bool → Bool → Bool → Status
-claimRefusal legal taken shared room = cond legal (cond taken ClientTaken (cond shared PaneShared (cond room Done Full))) PaneIllegal
-
--- 'open: 1 to 7': the first that applies
-abbrev pub firstRefusal : Bool → Bool → Bool → Bool → Bool → Bool → Bool → Status
-firstRefusal sized valid zero legal taken shared room = cond sized (cond valid (cond zero ClientZero (claimRefusal legal taken shared room)) Invalid) ScreenLength
-
--- what a call promises: its answer, and the bytes of the lent screen and block as it returns
-pub record Replies (reply : Reply) (answer : Answer) (screen block : List ℕ) : Type 0 where
-  pub status-is : answer .status ≡ reply .status
-  pub multiplexer-is : answer .multiplexer ≡ reply .multiplexer
-  pub count-is : answer .count ≡ reply .count
-  pub cells : screen ≡ reply .screen
-  pub bytes : block ≡ reply .block
+-- 1 before them, as the code finds it: by the screen's length
+unfoldable pub locatedOn : ℕ → Located → Located
+locatedOn size located = cond (isScreen size) located (Refused ScreenLength)

@@ -1,10 +1,13 @@
 // The wall of paper 01: one screen shared by up to four consoles, each in a pane of its own. This is what a host calls.
 // No public function has a `requires`: every input, refused or not, has its equation. No answer names a slot's place.
+// A call is judged here and made in `calls`, on the port of the client's slot.
 use port::state::fresh_port;
 use port::state::zero_port;
 use rectangle::Rect;
 use rectangle::legal;
+use reply::Status;
 use screen::clear;
+use screen::is_screen;
 use slots::Multiplexer;
 use slots::lookup::find_client;
 use slots::lookup::has_client;
@@ -17,24 +20,10 @@ use slots::with_slot;
 ghost use mathlib.Core.Path.{_≡_};
 ghost use Prim.Native.Nat.{_<_};
 ghost use mathlib.Core.List.{[]};
+ghost use Rattle.reply.specs.Reply.{Replies};
 ghost use Rattle.slots.specs.State.{freshMultiplexer, withPort};
-ghost use Rattle.multiplexer.specs.Located.{locatedSlot, locatedOn, answerWith, Replies, firstRefusal, claimRefusal};
-ghost use Rattle.multiplexer.specs.Calls.{numberOf, statusOf, openStatus, writeCall, returnCall, restoreCall, openCall, closeCall};
-
-// Paper 01, 'What comes back', for calls by client.
-pub enum Status {
-    Done,
-    ScreenLength,
-    Invalid,
-    ClientZero,
-    PaneIllegal,
-    ClientTaken,
-    PaneShared,
-    Full,
-    NotOpen,
-    BlockTooShort,
-    BlockMismatch,
-}
+ghost use Rattle.multiplexer.specs.Located.{clientSlot, freeSlotFor, claimSlot, locatedOn};
+ghost use Rattle.multiplexer.specs.Calls.{writeCall, returnCall, restoreCall, openCall, closeCall, answerOf};
 
 // What a call hands back: the status, the multiplexer, and the count of bells or of bytes.
 pub struct Answer {
@@ -43,22 +32,13 @@ pub struct Answer {
     pub count: usize,
 }
 
-// The paper's number.
-pub fn status_number(status: Status) -> u8
-    ensures { λ r. ⌜ r ≡ numberOf status ⌝ }
+fn answer_of(status: Status, multiplexer: Multiplexer, count: usize) -> Answer
+    ensures { λ r. ⌜ r ≡ answerOf status multiplexer count ⌝ }
 {
-    match status {
-        Status::Done => 0,
-        Status::ScreenLength => 1,
-        Status::Invalid => 2,
-        Status::ClientZero => 3,
-        Status::PaneIllegal => 4,
-        Status::ClientTaken => 5,
-        Status::PaneShared => 6,
-        Status::Full => 7,
-        Status::NotOpen => 8,
-        Status::BlockTooShort => 9,
-        Status::BlockMismatch => 10,
+    Answer {
+        status,
+        multiplexer,
+        count,
     }
 }
 
@@ -70,186 +50,136 @@ pub fn fresh_multiplexer() -> Multiplexer
     Multiplexer { slots: [free; 4] }
 }
 
-// Where a client's slot is, or why the call is refused.
+// Why a call is refused before it starts, or the place of its slot.
 enum Located {
     Refused(Status),
     At(usize),
 }
 
-// Refusal 2, then 8.
-fn locate(m: Multiplexer, client: u8) -> Located
-    ensures { λ r. ⌜ r ≡ locatedSlot m client ⌝ }
+// Refusal 2, then 8, and else the client's slot.
+fn client_slot(m: Multiplexer, client: u8) -> Located
+    ensures { λ r. ⌜ r ≡ clientSlot m client ⌝ }
 {
-    if valid_multiplexer(m) {
-        if has_client(m, client) {
-            return Located::At(find_client(m, client));
-        }
+    if !valid_multiplexer(m) {
+        return Located::Refused(Status::Invalid);
+    }
+    if !has_client(m, client) {
         return Located::Refused(Status::NotOpen);
     }
-    Located::Refused(Status::Invalid)
+    Located::At(find_client(m, client))
 }
 
-// Refusal 1 before them.
-fn locate_on(m: Multiplexer, length: usize, client: u8) -> Located
-    ensures { λ r. ⌜ r ≡ locatedOn m length client ⌝ }
+// Refusals 5 to 7, by what is open, and else the lowest free slot.
+fn free_slot_for(m: Multiplexer, client: u8, pane: Rect) -> Located
+    ensures { λ r. ⌜ r ≡ freeSlotFor m client pane ⌝ }
 {
-    if length == 1920 {
-        return locate(m, client);
+    if has_client(m, client) {
+        return Located::Refused(Status::ClientTaken);
+    }
+    if pane_shared(m, pane) {
+        return Located::Refused(Status::PaneShared);
+    }
+    let lowest = find_client(m, 0);
+    if 4 <= lowest {
+        return Located::Refused(Status::Full);
+    }
+    Located::At(lowest)
+}
+
+// Refusals 2, 3 and 4 before them.
+fn claim_slot(m: Multiplexer, client: u8, pane: Rect) -> Located
+    ensures { λ r. ⌜ r ≡ claimSlot m client pane ⌝ }
+{
+    if !valid_multiplexer(m) {
+        return Located::Refused(Status::Invalid);
+    }
+    if client == 0 {
+        return Located::Refused(Status::ClientZero);
+    }
+    if !legal(pane) {
+        return Located::Refused(Status::PaneIllegal);
+    }
+    free_slot_for(m, client, pane)
+}
+
+// Refusal 1 before them, by the screen's length.
+fn located_on(length: usize, located: Located) -> Located
+    ensures { λ r. ⌜ r ≡ locatedOn length located ⌝ }
+{
+    if is_screen(length) {
+        return located;
     }
     Located::Refused(Status::ScreenLength)
 }
 
-fn answer_with(status: Status, multiplexer: Multiplexer, count: usize) -> Answer
-    ensures { λ r. ⌜ r ≡ answerWith status multiplexer count ⌝ }
-{
-    Answer {
-        status,
-        multiplexer,
-        count,
-    }
-}
-
-// A console's status by the same number.
-fn status_of(status: console::Status) -> Status
-    ensures { λ r. ⌜ r ≡ statusOf status ⌝ }
-{
-    match status {
-        console::Status::Done => Status::Done,
-        console::Status::ScreenLength => Status::ScreenLength,
-        console::Status::InvalidPort => Status::Invalid,
-        console::Status::BlockTooShort => Status::BlockTooShort,
-        console::Status::BlockMismatch => Status::BlockMismatch,
-    }
-}
-
-// What a console answered to the port of slot i.
-fn relay(m: Multiplexer, i: usize, heard: console::Answer) -> Answer
+// What a call on the port of slot i answered.
+fn relay(m: Multiplexer, i: usize, answer: calls::Answer) -> Answer
     requires { ⌜ i < 4 ⌝ }
-    ensures { λ r. ⌜ r ≡ answerWith (statusOf (heard .status)) (withPort m i (heard .port)) (heard .count) ⌝ }
+    ensures { λ r. ⌜ r ≡ answerOf (answer .status) (withPort m i (answer .port)) (answer .count) ⌝ }
 {
-    let status = heard.status;
-    let port = heard.port;
-    answer_with(status_of(status), with_port(m, i, port), heard.count)
+    let status = answer.status;
+    let port = answer.port;
+    answer_of(status, with_port(m, i, port), answer.count)
 }
 
 // Obeys a stream on the client's port.
 pub fn write(m: Multiplexer, screen: &mut [u8], client: u8, bytes: &[u8]) -> Answer
-    ensures { λ r. ⌜ Replies (writeCall m (now (screen .entry)) client (now (bytes .entry))) r (now (screen .exit)) (now (bytes .entry)) ⌝ }
+    ensures { λ r. ⌜ Replies (writeCall m (now (screen .entry)) client (now (bytes .entry))) (r .status) (r .multiplexer) (r .count) (now (screen .exit)) (now (bytes .entry)) ⌝ }
 {
-    let located = locate_on(m, screen.len(), client);
+    let located = located_on(screen.len(), client_slot(m, client));
     match located {
-        Located::Refused(status) => answer_with(status, m, 0),
-        Located::At(i) => relay(m, i, console::write(port_at(m, i), screen, bytes)),
+        Located::Refused(status) => answer_of(status, m, 0),
+        Located::At(i) => relay(m, i, calls::write(port_at(m, i), screen, bytes)),
     }
 }
 
 // Hands the text of the client's viewport out.
 pub fn return_block(m: Multiplexer, screen: &[u8], client: u8, block: &mut [u8]) -> Answer
-    ensures { λ r. ⌜ Replies (returnCall m (now (screen .entry)) client (now (block .entry))) r (now (screen .entry)) (now (block .exit)) ⌝ }
+    ensures { λ r. ⌜ Replies (returnCall m (now (screen .entry)) client (now (block .entry))) (r .status) (r .multiplexer) (r .count) (now (screen .entry)) (now (block .exit)) ⌝ }
 {
-    let located = locate_on(m, screen.len(), client);
+    let located = located_on(screen.len(), client_slot(m, client));
     match located {
-        Located::Refused(status) => answer_with(status, m, 0),
-        Located::At(i) => relay(m, i, console::return_block(port_at(m, i), screen, block)),
+        Located::Refused(status) => answer_of(status, m, 0),
+        Located::At(i) => relay(m, i, calls::return_block(port_at(m, i), screen, block)),
     }
 }
 
 // Puts a block's text into the client's viewport.
 pub fn restore_block(m: Multiplexer, screen: &mut [u8], client: u8, block: &[u8]) -> Answer
-    ensures { λ r. ⌜ Replies (restoreCall m (now (screen .entry)) client (now (block .entry))) r (now (screen .exit)) (now (block .entry)) ⌝ }
+    ensures { λ r. ⌜ Replies (restoreCall m (now (screen .entry)) client (now (block .entry))) (r .status) (r .multiplexer) (r .count) (now (screen .exit)) (now (block .entry)) ⌝ }
 {
-    let located = locate_on(m, screen.len(), client);
+    let located = located_on(screen.len(), client_slot(m, client));
     match located {
-        Located::Refused(status) => answer_with(status, m, 0),
-        Located::At(i) => relay(m, i, console::restore_block(port_at(m, i), screen, block)),
+        Located::Refused(status) => answer_of(status, m, 0),
+        Located::At(i) => relay(m, i, calls::restore_block(port_at(m, i), screen, block)),
+    }
+}
+
+// Takes the lowest free slot, starts a fresh port there and blanks the pane.
+pub fn open(m: Multiplexer, screen: &mut [u8], client: u8, pane: Rect) -> Answer
+    ensures { λ r. ⌜ Replies (openCall m (now (screen .entry)) client pane) (r .status) (r .multiplexer) (r .count) (now (screen .exit)) [] ⌝ }
+{
+    let located = located_on(screen.len(), claim_slot(m, client, pane));
+    match located {
+        Located::Refused(status) => answer_of(status, m, 0),
+        Located::At(i) => {
+            clear(screen, pane, 0xA0);
+            answer_of(
+                Status::Done,
+                with_slot(m, i, new_slot(client, fresh_port(pane))),
+                0,
+            )
+        }
     }
 }
 
 // The slot's every field becomes 0 or false; no cell changes.
 pub fn close(m: Multiplexer, client: u8) -> Answer
-    ensures { λ r. ⌜ Replies (closeCall m client) r [] [] ⌝ }
+    ensures { λ r. ⌜ Replies (closeCall m client) (r .status) (r .multiplexer) (r .count) [] [] ⌝ }
 {
-    let located = locate(m, client);
+    let located = client_slot(m, client);
     match located {
-        Located::Refused(status) => answer_with(status, m, 0),
-        Located::At(i) => answer_with(Status::Done, with_slot(m, i, new_slot(0, zero_port())), 0),
+        Located::Refused(status) => answer_of(status, m, 0),
+        Located::At(i) => answer_of(Status::Done, with_slot(m, i, new_slot(0, zero_port())), 0),
     }
-}
-
-// The first refusal of 1 to 7 that applies, by the answer to each question.
-fn first_refusal(
-    sized: bool,
-    valid: bool,
-    zero: bool,
-    legal: bool,
-    taken: bool,
-    shared: bool,
-    room: bool,
-) -> Status
-    ensures { λ r. ⌜ r ≡ firstRefusal sized valid zero legal taken shared room ⌝ }
-{
-    if sized {
-        if valid {
-            if zero {
-                return Status::ClientZero;
-            }
-            return claim_refusal(legal, taken, shared, room);
-        }
-        return Status::Invalid;
-    }
-    Status::ScreenLength
-}
-
-// Refusals 4 to 7 of them.
-fn claim_refusal(legal: bool, taken: bool, shared: bool, room: bool) -> Status
-    ensures { λ r. ⌜ r ≡ claimRefusal legal taken shared room ⌝ }
-{
-    if legal {
-        if taken {
-            return Status::ClientTaken;
-        }
-        if shared {
-            return Status::PaneShared;
-        }
-        if room {
-            return Status::Done;
-        }
-        return Status::Full;
-    }
-    Status::PaneIllegal
-}
-
-// Whether an opening is refused, and why.
-fn open_status(m: Multiplexer, length: usize, client: u8, pane: Rect) -> Status
-    ensures { λ r. ⌜ r ≡ openStatus m length client pane ⌝ }
-{
-    let valid = valid_multiplexer(m);
-    let taken = has_client(m, client);
-    let shared = pane_shared(m, pane);
-    let lowest = find_client(m, 0);
-    first_refusal(
-        length == 1920,
-        valid,
-        client == 0,
-        legal(pane),
-        taken,
-        shared,
-        lowest < 4,
-    )
-}
-
-// Takes the lowest free slot, starts a fresh port there and blanks the pane.
-pub fn open(m: Multiplexer, screen: &mut [u8], client: u8, pane: Rect) -> Answer
-    ensures { λ r. ⌜ Replies (openCall m (now (screen .entry)) client pane) r (now (screen .exit)) [] ⌝ }
-{
-    let status = open_status(m, screen.len(), client, pane);
-    if status_number(status) == 0 {
-        clear(screen, pane, 0xA0);
-        return answer_with(
-            Status::Done,
-            with_slot(m, find_client(m, 0), new_slot(client, fresh_port(pane))),
-            0,
-        );
-    }
-    answer_with(status, m, 0)
 }

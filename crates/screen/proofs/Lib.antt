@@ -1,4 +1,5 @@
--- `Rewrites`: how a run of places starts, grows and joins another. `Lines`: a walk over a rectangle's lines. `Stores`: one cell stored.
+-- `Sizes`: when lent bytes are a screen. `Rewrites`: how a run of places starts, grows and joins another. `Lines`: a walk over a rectangle's lines. `Stores`: one cell stored.
+pub mod Sizes
 pub mod Rewrites
 pub mod Lines
 pub mod Stores

@@ -8,8 +8,16 @@ ghost use mathlib.Core.Path.{_≡_};
 ghost use Prim.Native.Nat.{_+_, _-_, _*_, _≤_, _<_, min};
 ghost use lib.ListN.{length, take, drop};
 ghost use Rattle.rectangle.specs.Rectangles.{OnScreen, cellAt};
+ghost use Rattle.screen.specs.Size.{isScreen};
 ghost use Rattle.screen.specs.Rewrite.{Filled, Moved, Copied};
 ghost use Rattle.rectangle.specs.Edit.{edited};
+
+// Whether lent bytes are a screen, by their number: refusal 1 of every call that takes one.
+pub fn is_screen(length: usize) -> bool
+    ensures { λ r. ⌜ r ≡ isScreen length ⌝ }
+{
+    length == 1920
+}
 
 // The index of a cell.
 fn cell_index(column: usize, line: usize) -> usize

@@ -1,6 +1,6 @@
 // Answers as bytes, for callers in other languages.
 use super::Session;
-use console::status_number;
+use reply::status_number;
 ghost use Prim.Native.Nat.{_≤_};
 ghost use lib.ListN.{length};
 

@@ -1,12 +1,12 @@
 // A plain console kept for a session. A stream may come in pieces of any size, or byte after byte.
 pub mod answer;
 
-use console::Answer;
-use console::Status;
+use calls::Answer;
 use console::fresh_console;
 use console::put_byte_by_value;
 use console::write;
 use port::Port;
+use reply::Status;
 ghost use Prim.Native.Nat.{_<_, min};
 ghost use mathlib.Core.Path.{_≡_};
 

@@ -5,7 +5,7 @@ use rectangle::Rect;
 // A call's number and count, in decimal.
 fn show(answer: Answer) {
     let status = answer.status;
-    io::print_decimal(STDOUT_FILENO, multiplexer::status_number(status) as u64);
+    io::print_decimal(STDOUT_FILENO, reply::status_number(status) as u64);
     io::write_all(STDOUT_FILENO, b" ");
     io::print_decimal(STDOUT_FILENO, answer.count as u64);
     io::write_all(STDOUT_FILENO, b"\n");

@@ -1,20 +1,23 @@
--- `console::judge` meets its contract: each way through it is an arm of the definition. Assumes nothing.
+-- `console::judge` meets its contract: 1 is asked before the rest. Assumes nothing.
 use borrow.Author.Needs.{needs}
-use Rattle.console.proofs.Replying.{judgements}
+use Rattle.laws.proofs.Choices.{answers}
+use Rattle.console.specs.Calls.{judgement}
 use Rattle.console.proofs.judge.Statement.{statement}
 use Rattle.console.proofs.judge.Tie as tie
 
-returns : tie.Need-returns
-returns c = search judgements
+is-screen-requires : tie.Need-is-screen-requires
+is-screen-requires c κs = search needs
 
-valid-port-requires : tie.Need-valid-port-requires
-valid-port-requires c κs = search needs
+judge-port-requires : tie.Need-judge-port-requires
+judge-port-requires c κs = search needs
+
+returns : tie.Need-returns
+unfolding judgement
+returns c = search answers
 
 returns-2 : tie.Need-returns-2
-returns-2 c = search judgements
-
-returns-3 : tie.Need-returns-3
-returns-3 c = search judgements
+unfolding judgement
+returns-2 c = search answers
 
 pub judge-spec : {M : Type 1} → statement M
-judge-spec = tie.close (tie.spec returns valid-port-requires returns-2 returns-3)
+judge-spec = tie.close (tie.spec is-screen-requires judge-port-requires returns returns-2)

@@ -45,11 +45,13 @@ use denote.Exit.{yes}
 use Rattle.port.specs.declared.Port.{Port}
 use Rattle.port.proofs.Port as P
 use Rattle.port.proofs.Port.Laws as P′
-use Rattle.console.specs.declared.Answer.{Answer}
+use Rattle.reply.specs.declared.Status.{Status}
+use Rattle.reply.specs.Reply.{Replies}
+use Rattle.calls.specs.declared.Answer.{Answer}
 use Rattle.console.specs.declared.ByteAnswer.{ByteAnswer}
-use Rattle.console.specs.Calls.{writeCall, Replies, RepliesInPlace}
-use Rattle.console.proofs.Answer as An
-use Rattle.console.proofs.Answer.Laws as An′
+use Rattle.console.specs.Calls.{writeCall}
+use Rattle.calls.proofs.Answer as An
+use Rattle.calls.proofs.Answer.Laws as An′
 use Rattle.console.proofs.ByteAnswer as By
 use Rattle.console.proofs.ByteAnswer.Laws as By′
 use Rattle.console.proofs.write_byte as write-byte
@@ -76,6 +78,10 @@ stayed = (stay-ref (0 ∷ []) tt (plain (λ _. P.the-row)), (gave-slice (1 ∷ [
 -- a port's machine value
 abbrev machine : Port → Val
 machine = LL.val P.the-type P′.the-laws
+
+-- what a write of one byte leaves, part by part
+abbrev Wrote : Port → List ℕ → ℕ → Status → Port → ℕ → List ℕ → Type 0
+Wrote p cells byte status after count drawn = Replies (writeCall p cells (byte ∷ [])) status after count drawn (byte ∷ [])
 
 -- what `without_port` keeps of an answer
 abbrev SameRest : Answer → ByteAnswer → Type 0
@@ -120,7 +126,7 @@ module _ {M : Type 1} (𝓤 : URA M) (H : Heap 𝓤) (A : Atoms 𝓤) (W : Given
   Post = walkOf 𝓤 H A f.ended stayed (f.clauses 𝓤 H A at-mem run) .post (((κ, (κ′, tt)), (q, (q′, tt)), bounds, args, vals), tt)
 
   -- the exit: from [the port's observation; its borrow; its token; the answer; the screen's token; the screen's last list]
-  exits : (r : ByteAnswer) (v : Val) (after : Port) (drawn : List ℕ) → RepliesInPlace (writeCall p cells (byte ∷ [])) r after drawn → length drawn ≡ length cells
+  exits : (r : ByteAnswer) (v : Val) (after : Port) (drawn : List ℕ) → Wrote p cells byte (r .status) after (r .count) drawn → length drawn ≡ length cells
       → ent 𝓤 (⋆ 𝓤 H A (‵ (fobs γ (P.the-row .coded .code after)) ∷ ‵ (fbor κ (Body (mem P.the-row) b o γ)) ∷ ‵ (flft κ q) ∷ ‵ (By.the-row .own r (v ∷ [])) ∷ (‵ (flft κ′ q′) ⊛ ‵ ftrue) ∷ ‵ (finally u8 γ′ drawn) ∷ [])) (Post v)
   exits r v after drawn e l =
       qed W (‵ (fobs γ (P.the-row .coded .code after)) ∷ ‵ (fbor κ (Body (mem P.the-row) b o γ)) ∷ ‵ (flft κ q) ∷ ‵ (By.the-row .own r (v ∷ [])) ∷ (‵ (flft κ′ q′) ⊛ ‵ ftrue) ∷ ‵ (finally u8 γ′ drawn) ∷ []) ∵
@@ -170,8 +176,8 @@ module _ {M : Type 1} (𝓤 : URA M) (H : Heap 𝓤) (A : Atoms 𝓤) (W : Given
         -- [what it takes; the port's cell; the open borrow; its observation; its authority; _7; …]
         calls-at ! fm (WriteByte 𝓤 H A at-mem run) known-write to-write (and-then ! (load ! (from ! (stop !)) (look ! 9 refl)) (and-then ! (load ! (from ! (stop !)) (look ! 5 refl)) (and-then ! (load ! (from ! (stop !)) (look ! 13 refl)) (no-more !)))) (λ v.
         use1 W (later (some (λ (a : Answer). ((‵ (flft κ′ q′) ⊛ ‵ ftrue) ⊛ ‵ (An.the-row .own a (v ∷ []))) ⊛ raw (ensured 𝓤 H A write-byte.ended (write-byte.clauses 𝓤 H A at-mem run) (κ′, tt) (p, (screen, (byte, tt))) tt a)))) (id⊢ 𝓤 _) $ await ! tt $ pick ! (λ a.
-        split ! $ move ! (1 ∷ []) $ use1 W (some (λ (zs : Unit {0} × (List ℕ × (Unit {0} × Unit {0}))). ‵ (lasts write-byte.ended (κ′, tt) (p, (screen, (byte, tt))) zs) ⊛ raw (fact 𝓤 (Replies (writeCall p cells (byte ∷ [])) a (zs .1 .0) (byte ∷ []))))) (id⊢ 𝓤 _) $ pick ! (λ zs.
-        split ! $ move ! (1 ∷ []) $ heard ! (Replies (writeCall p cells (byte ∷ [])) a (zs .1 .0) (byte ∷ [])) (λ e. fsplit ! $ drop ! $ fsplit ! $ fsplit ! $ move ! (1 ∷ []) $ feqL ! (λ l. move ! (1 ∷ []) $ drop ! $
+        split ! $ move ! (1 ∷ []) $ use1 W (some (λ (zs : Unit {0} × (List ℕ × (Unit {0} × Unit {0}))). ‵ (lasts write-byte.ended (κ′, tt) (p, (screen, (byte, tt))) zs) ⊛ raw (fact 𝓤 (Wrote p cells byte (a .status) (a .port) (a .count) (zs .1 .0))))) (id⊢ 𝓤 _) $ pick ! (λ zs.
+        split ! $ move ! (1 ∷ []) $ heard ! (Wrote p cells byte (a .status) (a .port) (a .count) (zs .1 .0)) (λ e. fsplit ! $ drop ! $ fsplit ! $ fsplit ! $ move ! (1 ∷ []) $ feqL ! (λ l. move ! (1 ∷ []) $ drop ! $
         -- [the last list; the token and the answer; the port's cell; …]
         move ! (1 ∷ []) $ split ! $ move ! (1 ∷ []) $ peeks ! An.the-row (Is An.the-row) (shows 𝓤 H A An.the-row) a (v ∷ []) (λ is.
         land ! (from ! (stop !)) (init ! 13 refl (LL.lawful An.the-type An′.the-laws 𝓤 H A W .typed a _ is .0)) $
@@ -196,7 +202,7 @@ module _ {M : Type 1} (𝓤 : URA M) (H : Heap 𝓤) (A : Atoms 𝓤) (W : Given
         -- [the observation; the borrow; the port's token; the answer; the screen's token; the last list; _7; …]
         returns ! (look ! 20 refl) $ forget ! 6 refl $ forget ! 8 refl $ forget ! 10 refl $ forget ! 12 refl $ forget ! 14 refl $ forget ! 16 refl $ forget ! 18 refl $ forget ! 20 refl $
         move ! (20 ∷ 21 ∷ []) $ free1 ! $ move ! (18 ∷ 19 ∷ []) $ free1 ! $ move ! (16 ∷ 17 ∷ []) $ free1 ! $ move ! (14 ∷ 15 ∷ []) $ free1 ! $ move ! (12 ∷ 13 ∷ []) $ free1 ! $ move ! (10 ∷ 11 ∷ []) $ free1 ! $ move ! (8 ∷ 9 ∷ []) $ free1 ! $ move ! (6 ∷ 7 ∷ []) $ free1 ! $ free0 ! $
-        by ! (exits r v₃ after (zs .1 .0) (record { status-is = e₃ .0 ∙ e .status-is; port-is = e₂ ∙ e .port-is; count-is = e₃ .1 ∙ e .count-is; cells = e .cells }) l)))))))))))))))))))))))))
+        by ! (exits r v₃ after (zs .1 .0) (record { status-is = e₃ .0 ∙ e .status-is; state-is = e₂ ∙ e .state-is; result-is = e₃ .1 ∙ e .result-is; cells = e .cells; bytes = e .bytes }) l)))))))))))))))))))))))))
 
 module _ {M : Type 1} (𝓤 : URA M) (H : Heap 𝓤) (A : Atoms 𝓤) (W : Given 𝓤 H A) (at-mem : Memory → SProp 𝓤) (run : Routine → Fun 𝓤) where
   put-byte-walks : (C : Calls 𝓤 H) (Λ : Loops 𝓤 H) → FmC 𝓤 H (W .laws) C → Triple 𝓤 (C #console·write-byte) (WriteByte 𝓤 H A at-mem run) → Triple 𝓤 (C #console·port-of) (PortOf 𝓤 H A at-mem run) → Triple 𝓤 (C #console·without-port) (WithoutPort 𝓤 H A at-mem run)

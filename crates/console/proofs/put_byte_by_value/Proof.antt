@@ -46,12 +46,15 @@ use borrow.Table.OneValue.{part-in, part-out}
 use Rattle.port.specs.declared.Port.{Port}
 use Rattle.port.proofs.Port as P
 use Rattle.port.proofs.Port.Laws as P′
-use Rattle.console.specs.declared.Answer.{Answer}
+use Rattle.reply.specs.declared.Status.{Status}
+use Rattle.reply.specs.Reply.{Replies}
+use Rattle.calls.specs.declared.Answer.{Answer}
+use Rattle.calls.specs.Calls.{answerOf}
 use Rattle.console.specs.declared.ByteAnswer.{ByteAnswer}
-use Rattle.console.specs.Calls.{writeCall, answerOf, Replies, RepliesInPlace}
+use Rattle.console.specs.Calls.{writeCall}
 use Rattle.console.proofs.Replying.{replies-by-value}
-use Rattle.console.proofs.Answer as An
-use Rattle.console.proofs.Answer.Laws as An′
+use Rattle.calls.proofs.Answer as An
+use Rattle.calls.proofs.Answer.Laws as An′
 use Rattle.console.proofs.ByteAnswer as By
 use Rattle.console.proofs.ByteAnswer.Laws as By′
 use Rattle.console.proofs.put_byte as put-byte
@@ -70,6 +73,10 @@ use Rattle.console.proofs.put_byte_by_value.Code as code
 -- what is left of the parameters at exit: the screen's borrow is given up
 abbrev stayed : Stays (f.ended .signature .params) (f.ended .kept)
 stayed = (stay-none (λ _. P.the-row) yes, (gave-slice (0 ∷ []) tt (plain (λ _. u8)), (stay-none (λ _. u8) yes, tt)))
+
+-- what a write of one byte leaves, part by part
+abbrev Wrote : Port → List ℕ → ℕ → Status → Port → ℕ → List ℕ → Type 0
+Wrote p cells byte status after count drawn = Replies (writeCall p cells (byte ∷ [])) status after count drawn (byte ∷ [])
 
 -- a port's machine value
 abbrev machine : Port → Val
@@ -107,7 +114,7 @@ module _ {M : Type 1} (𝓤 : URA M) (H : Heap 𝓤) (A : Atoms 𝓤) (W : Given
   abbrev Post : Val → SProp 𝓤
   Post = walkOf 𝓤 H A f.ended stayed (f.clauses 𝓤 H A at-mem run) .post (((κ, tt), (q, tt), tt, args, vals), tt)
 
-  exits : (a : Answer) (v : Val) (drawn : List ℕ) → Replies (writeCall p cells (byte ∷ [])) a drawn (byte ∷ []) → length drawn ≡ length cells
+  exits : (a : Answer) (v : Val) (drawn : List ℕ) → Wrote p cells byte (a .status) (a .port) (a .count) drawn → length drawn ≡ length cells
       → ent 𝓤 (sep 𝓤 (sem 𝓤 H A (An.the-row .own a (v ∷ []))) (sep 𝓤 (sep 𝓤 (A .lft κ q) (sem 𝓤 H A ftrue)) (sem 𝓤 H A (finally u8 γ drawn)))) (Post v)
   exits a v drawn e l =
       qed W (‵ (An.the-row .own a (v ∷ [])) ∷ (‵ (flft κ q) ⊛ ‵ ftrue) ∷ ‵ (finally u8 γ drawn) ∷ []) ∵
@@ -153,8 +160,8 @@ module _ {M : Type 1} (𝓤 : URA M) (H : Heap 𝓤) (A : Atoms 𝓤) (W : Given
         move ! (2 ∷ 23 ∷ []) $ join ! $ move ! (1 ∷ 3 ∷ []) $ fjoin ! $ move ! (1 ∷ 0 ∷ []) $ use2 W (raw (PutByte 𝓤 H A at-mem run .pre (to-put ν l₄ δ))) (goes-put ν l₄ δ) $
         calls-at ! fm (PutByte 𝓤 H A at-mem run) known-put (to-put ν l₄ δ) (and-then ! (load ! (from ! (stop !)) (look ! 8 refl)) (and-then ! (load ! (from ! (stop !)) (look ! 4 refl)) (and-then ! (load ! (from ! (stop !)) (look ! 13 refl)) (no-more !)))) (λ v.
         use1 W (later (some (λ (r : ByteAnswer). ((‵ (flft (ν ∷ []) fullShare) ⊛ ‵ (flft κ q) ⊛ ‵ ftrue) ⊛ ‵ (By.the-row .own r (v ∷ []))) ⊛ raw (ensured 𝓤 H A put-byte.ended (put-byte.clauses 𝓤 H A at-mem run) (ν ∷ [], (κ, tt)) (lent l₄ δ, (screen, (byte, tt))) tt r)))) (id⊢ 𝓤 _) $ await ! tt $ pick ! (λ r.
-        split ! $ move ! (1 ∷ []) $ use1 W (some (λ (zs : Port × (List ℕ × (Unit {0} × Unit {0}))). ‵ (lasts put-byte.ended (ν ∷ [], (κ, tt)) (lent l₄ δ, (screen, (byte, tt))) zs) ⊛ raw (fact 𝓤 (RepliesInPlace (writeCall p cells (byte ∷ [])) r (zs .0) (zs .1 .0))))) (id⊢ 𝓤 _) $ pick ! (λ zs.
-        split ! $ move ! (1 ∷ []) $ heard ! (RepliesInPlace (writeCall p cells (byte ∷ [])) r (zs .0) (zs .1 .0)) (λ e. fsplit ! $ move ! (1 ∷ []) $ fsplit ! $ fsplit ! $ move ! (1 ∷ []) $ feqL ! (λ l. move ! (1 ∷ []) $ drop ! $
+        split ! $ move ! (1 ∷ []) $ use1 W (some (λ (zs : Port × (List ℕ × (Unit {0} × Unit {0}))). ‵ (lasts put-byte.ended (ν ∷ [], (κ, tt)) (lent l₄ δ, (screen, (byte, tt))) zs) ⊛ raw (fact 𝓤 (Wrote p cells byte (r .status) (zs .0) (r .count) (zs .1 .0))))) (id⊢ 𝓤 _) $ pick ! (λ zs.
+        split ! $ move ! (1 ∷ []) $ heard ! (Wrote p cells byte (r .status) (zs .0) (r .count) (zs .1 .0)) (λ e. fsplit ! $ move ! (1 ∷ []) $ fsplit ! $ fsplit ! $ move ! (1 ∷ []) $ feqL ! (λ l. move ! (1 ∷ []) $ drop ! $
         -- [the last list; the port's last value; the tokens and the answer; the lender's part; _9; …]
         move ! (2 ∷ []) $ split ! $ move ! (1 ∷ []) $ peeks ! By.the-row (Is By.the-row) (shows 𝓤 H A By.the-row) r (v ∷ []) (λ is.
         land ! (from ! (stop !)) (init ! 13 refl (LL.lawful By.the-type By′.the-laws 𝓤 H A W .typed r _ is .0)) $
@@ -174,7 +181,7 @@ module _ {M : Type 1} (𝓤 : URA M) (H : Heap 𝓤) (A : Atoms 𝓤) (W : Given
         land ! (from ! (stop !)) (init ! 21 refl (LL.lawful An.the-type An′.the-laws 𝓤 H A W .typed a _ is₂ .0)) $
         returns ! (look ! 21 refl) $ forget ! 1 refl $ forget ! 4 refl $ forget ! 6 refl $ forget ! 8 refl $ forget ! 10 refl $ forget ! 12 refl $ forget ! 15 refl $ forget ! 17 refl $ forget ! 19 refl $ forget ! 21 refl $
         move ! (21 ∷ 22 ∷ []) $ free1 ! $ move ! (19 ∷ 20 ∷ []) $ free1 ! $ move ! (17 ∷ 18 ∷ []) $ free1 ! $ move ! (15 ∷ 16 ∷ []) $ free1 ! $ move ! (1 ∷ 14 ∷ []) $ free1 ! $ move ! (11 ∷ 12 ∷ []) $ free1 ! $ move ! (9 ∷ 10 ∷ []) $ free1 ! $ move ! (7 ∷ 8 ∷ []) $ free1 ! $ move ! (5 ∷ 6 ∷ []) $ free1 ! $ move ! (3 ∷ 4 ∷ []) $ free1 ! $ free0 ! $
-        by ! (exits a v₂ (zs .1 .0) (replies-by-value p cells (byte ∷ []) r (zs .0) (zs .1 .0) a e e₂) l)))))))))))))))))))))))))
+        by ! (exits a v₂ (zs .1 .0) (replies-by-value (writeCall p cells (byte ∷ [])) r (zs .0) (zs .1 .0) (byte ∷ []) a e e₂) l)))))))))))))))))))))))))
 
 module _ {M : Type 1} (𝓤 : URA M) (H : Heap 𝓤) (A : Atoms 𝓤) (W : Given 𝓤 H A) (at-mem : Memory → SProp 𝓤) (run : Routine → Fun 𝓤) where
   put-byte-by-value-walks : (C : Calls 𝓤 H) (Λ : Loops 𝓤 H) → FmC 𝓤 H (W .laws) C → Triple 𝓤 (C #console·put-byte) (PutByte 𝓤 H A at-mem run) → Triple 𝓤 (C #console·with-port) (WithPort 𝓤 H A at-mem run)

@@ -1,6 +1,6 @@
--- `console::restore_block` meets its contract: refused before it starts, for a block that does not fit, or `copy_in` writes the cells. Assumes nothing.
+-- `console::restore_block` meets its contract: refused before it starts, or the reply of `calls`. Assumes nothing.
 use borrow.Author.Needs.{needs}
-use Rattle.console.proofs.Replying.{accepted, restored-size, fit-length, replies-refused, replies-restored, replies-mismatch}
+use Rattle.console.proofs.Replying.{acceptances, replies-refused, replies-made}
 use Rattle.console.proofs.restore_block.Statement.{statement}
 use Rattle.console.proofs.restore_block.Tie as tie
 
@@ -10,35 +10,23 @@ judge-requires c κs = search needs
 enum-known-judged : tie.Need-enum-known-judged
 enum-known-judged c = search needs
 
-refused-requires : tie.Need-refused-requires
-refused-requires c κs = search needs
+answer-of-requires : tie.Need-answer-of-requires
+answer-of-requires c κs = search needs
 
 enum-told : tie.Need-enum-told
 enum-told c = search needs
 
-block-fits-requires : tie.Need-block-fits-requires
-block-fits-requires c κs = search (accepted, needs)
-
-copy-in-requires : tie.Need-copy-in-requires
-copy-in-requires c κs = search (accepted, fit-length, needs)
-
-done-requires : tie.Need-done-requires
-done-requires c κs = search needs
-
-same-length : tie.Need-same-length
-same-length c = search (restored-size, accepted)
+restore-block-requires : tie.Need-restore-block-requires
+restore-block-requires c κs = search (acceptances, needs)
 
 returns : tie.Need-returns
-returns c = search replies-restored
+returns c = search replies-refused
 
-refused-requires-2 : tie.Need-refused-requires-2
-refused-requires-2 c κs = search needs
+same-length : tie.Need-same-length
+same-length c = search needs
 
 returns-2 : tie.Need-returns-2
-returns-2 c = search replies-refused
-
-returns-3 : tie.Need-returns-3
-returns-3 c = search replies-mismatch
+returns-2 c = search replies-made
 
 pub restore-block-spec : {M : Type 1} → statement M
 restore-block-spec =
@@ -46,13 +34,9 @@ restore-block-spec =
     (tie.spec
     judge-requires
     enum-known-judged
-    refused-requires
+    answer-of-requires
     enum-told
-    block-fits-requires
-    copy-in-requires
-    done-requires
-    same-length
+    restore-block-requires
     returns
-    refused-requires-2
-    returns-2
-    returns-3)
+    same-length
+    returns-2)

@@ -1,6 +1,6 @@
--- `console::return_block` meets its contract: refused before it starts, for a short block, or `copy_out` fills the front of the block. Assumes nothing.
+-- `console::return_block` meets its contract: refused before it starts, or the reply of `calls`. Assumes nothing.
 use borrow.Author.Needs.{needs}
-use Rattle.console.proofs.Replying.{accepted, block-room, block-size, replies-refused, replies-returned, replies-short}
+use Rattle.console.proofs.Replying.{acceptances, replies-refused, replies-made}
 use Rattle.console.proofs.return_block.Statement.{statement}
 use Rattle.console.proofs.return_block.Tie as tie
 
@@ -10,35 +10,23 @@ judge-requires c κs = search needs
 enum-known-judged : tie.Need-enum-known-judged
 enum-known-judged c = search needs
 
-refused-requires : tie.Need-refused-requires
-refused-requires c κs = search needs
+answer-of-requires : tie.Need-answer-of-requires
+answer-of-requires c κs = search needs
 
 enum-told : tie.Need-enum-told
 enum-told c = search needs
 
-block-length-requires : tie.Need-block-length-requires
-block-length-requires c κs = search (accepted, needs)
-
-refused-requires-2 : tie.Need-refused-requires-2
-refused-requires-2 c κs = search needs
+return-block-requires : tie.Need-return-block-requires
+return-block-requires c κs = search (acceptances, needs)
 
 returns : tie.Need-returns
-returns c = search replies-short
-
-copy-out-requires : tie.Need-copy-out-requires
-copy-out-requires c κs = search (accepted, block-room, needs)
-
-done-requires : tie.Need-done-requires
-done-requires c κs = search needs
-
-returns-2 : tie.Need-returns-2
-returns-2 c = search replies-refused
+returns c = search replies-refused
 
 same-length : tie.Need-same-length
-same-length c = search block-size
+same-length c = search needs
 
-returns-3 : tie.Need-returns-3
-returns-3 c = search replies-returned
+returns-2 : tie.Need-returns-2
+returns-2 c = search replies-made
 
 pub return-block-spec : {M : Type 1} → statement M
 return-block-spec =
@@ -46,13 +34,9 @@ return-block-spec =
     (tie.spec
     judge-requires
     enum-known-judged
-    refused-requires
+    answer-of-requires
     enum-told
-    block-length-requires
-    refused-requires-2
+    return-block-requires
     returns
-    copy-out-requires
-    done-requires
-    returns-2
     same-length
-    returns-3)
+    returns-2)

@@ -1,6 +1,6 @@
 -- `console::row_view` meets its contract: an empty part where the call is refused or the row is past the last, and else the row's own part. Assumes nothing.
 use borrow.Author.Needs.{needs}
-use Rattle.console.proofs.Replying.{accepted, row-refused, row-past, row-good}
+use Rattle.console.proofs.Replying.{acceptances, row-refused, row-past, row-good}
 use Rattle.console.proofs.row_view.Statement.{statement}
 use Rattle.console.proofs.row_view.Tie as tie
 
@@ -23,13 +23,13 @@ enum-told-2 : tie.Need-enum-told-2
 enum-told-2 c = search needs
 
 height-requires : tie.Need-height-requires
-height-requires c κs = search (accepted, needs)
+height-requires c κs = search (acceptances, needs)
 
 cast-if1 : tie.Need-cast-if1
 cast-if1 c = search needs
 
 row-cells-requires : tie.Need-row-cells-requires
-row-cells-requires c κs = search (accepted, needs)
+row-cells-requires c κs = search (acceptances, needs)
 
 returns : tie.Need-returns
 returns c = search row-good

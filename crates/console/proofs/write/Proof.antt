@@ -1,7 +1,6 @@
--- `console::write` meets its contract: refused before it starts, or what `carry_stream` leaves is what the definition draws. Assumes nothing.
+-- `console::write` meets its contract: refused before it starts, or the reply of `calls`. Assumes nothing.
 use borrow.Author.Needs.{needs}
-use Rattle.console.proofs.Replying.{accepted, replies-refused, replies-written}
-use Rattle.executor.proofs.Carrying.{same-size}
+use Rattle.console.proofs.Replying.{acceptances, replies-refused, replies-made}
 use Rattle.console.proofs.write.Statement.{statement}
 use Rattle.console.proofs.write.Tie as tie
 
@@ -11,26 +10,23 @@ judge-requires c κs = search needs
 enum-known-judged : tie.Need-enum-known-judged
 enum-known-judged c = search needs
 
-refused-requires : tie.Need-refused-requires
-refused-requires c κs = search needs
+answer-of-requires : tie.Need-answer-of-requires
+answer-of-requires c κs = search needs
 
 enum-told : tie.Need-enum-told
 enum-told c = search needs
 
-carry-stream-requires : tie.Need-carry-stream-requires
-carry-stream-requires c κs = search (accepted, needs)
-
-done-requires : tie.Need-done-requires
-done-requires c κs = search needs
+write-requires : tie.Need-write-requires
+write-requires c κs = search (acceptances, needs)
 
 returns : tie.Need-returns
 returns c = search replies-refused
 
 same-length : tie.Need-same-length
-same-length c = search same-size
+same-length c = search needs
 
 returns-2 : tie.Need-returns-2
-returns-2 c = search replies-written
+returns-2 c = search replies-made
 
 pub write-spec : {M : Type 1} → statement M
 write-spec =
@@ -38,10 +34,9 @@ write-spec =
     (tie.spec
     judge-requires
     enum-known-judged
-    refused-requires
+    answer-of-requires
     enum-told
-    carry-stream-requires
-    done-requires
+    write-requires
     returns
     same-length
     returns-2)

@@ -1,7 +1,6 @@
--- `console::write_byte` meets its contract: refused before it starts, or what `carry_single` leaves is what the definition draws. Assumes nothing.
+-- `console::write_byte` meets its contract: refused before it starts, or the reply of `calls`. Assumes nothing.
 use borrow.Author.Needs.{needs}
-use Rattle.executor.proofs.Carrying.{same-size}
-use Rattle.console.proofs.Replying.{accepted, replies-refused, replies-written}
+use Rattle.console.proofs.Replying.{acceptances, replies-refused, replies-made}
 use Rattle.console.proofs.write_byte.Statement.{statement}
 use Rattle.console.proofs.write_byte.Tie as tie
 
@@ -11,26 +10,23 @@ judge-requires c κs = search needs
 enum-known-judged : tie.Need-enum-known-judged
 enum-known-judged c = search needs
 
-refused-requires : tie.Need-refused-requires
-refused-requires c κs = search needs
+answer-of-requires : tie.Need-answer-of-requires
+answer-of-requires c κs = search needs
 
 enum-told : tie.Need-enum-told
 enum-told c = search needs
 
-carry-single-requires : tie.Need-carry-single-requires
-carry-single-requires c κs = search (accepted, needs)
-
-done-requires : tie.Need-done-requires
-done-requires c κs = search needs
+write-byte-requires : tie.Need-write-byte-requires
+write-byte-requires c κs = search (acceptances, needs)
 
 returns : tie.Need-returns
 returns c = search replies-refused
 
 same-length : tie.Need-same-length
-same-length c = search same-size
+same-length c = search needs
 
 returns-2 : tie.Need-returns-2
-returns-2 c = search replies-written
+returns-2 c = search replies-made
 
 pub write-byte-spec : {M : Type 1} → statement M
 write-byte-spec =
@@ -38,10 +34,9 @@ write-byte-spec =
     (tie.spec
     judge-requires
     enum-known-judged
-    refused-requires
+    answer-of-requires
     enum-told
-    carry-single-requires
-    done-requires
+    write-byte-requires
     returns
     same-length
     returns-2)

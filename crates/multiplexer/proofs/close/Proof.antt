@@ -1,17 +1,17 @@
 -- `multiplexer::close` meets its contract: refused, or the slot becomes a free one. Assumes nothing.
 use borrow.Author.Needs.{needs}
-use Rattle.multiplexer.proofs.Replying.{found, close-refused-by, close-done-by}
+use Rattle.multiplexer.proofs.Replying.{close-place, close-refused-by, close-done-by}
 use Rattle.multiplexer.proofs.close.Statement.{statement}
 use Rattle.multiplexer.proofs.close.Tie as tie
 
-locate-requires : tie.Need-locate-requires
-locate-requires c κs = search needs
+client-slot-requires : tie.Need-client-slot-requires
+client-slot-requires c κs = search needs
 
 enum-known-located : tie.Need-enum-known-located
 enum-known-located c = search needs
 
-answer-with-requires : tie.Need-answer-with-requires
-answer-with-requires c κs = search needs
+answer-of-requires : tie.Need-answer-of-requires
+answer-of-requires c κs = search needs
 
 enum-known-located-2 : tie.Need-enum-known-located-2
 enum-known-located-2 c = search needs
@@ -23,14 +23,10 @@ new-slot-requires : tie.Need-new-slot-requires
 new-slot-requires c κs = search needs
 
 with-slot-requires : tie.Need-with-slot-requires
-with-slot-requires c κs =
-    let args = c .before .before .before .before .before .before .args in
-    let found-at = c .before .before .before .before .before .locate in
-    let way = c .before .before .before .located2 .given in
-    found (args .m) (args .client) (way .0 .0) (found-at .result) (found-at .ensures) (way .1) .below
+with-slot-requires c κs = search (close-place, needs)
 
-answer-with-requires-2 : tie.Need-answer-with-requires-2
-answer-with-requires-2 c κs = search needs
+answer-of-requires-2 : tie.Need-answer-of-requires-2
+answer-of-requires-2 c κs = search needs
 
 returns : tie.Need-returns
 returns c = search close-refused-by
@@ -42,13 +38,13 @@ pub close-spec : {M : Type 1} → statement M
 close-spec =
     tie.close
     (tie.spec
-    locate-requires
+    client-slot-requires
     enum-known-located
-    answer-with-requires
+    answer-of-requires
     enum-known-located-2
     zero-port-requires
     new-slot-requires
     with-slot-requires
-    answer-with-requires-2
+    answer-of-requires-2
     returns
     returns-2)

@@ -1,20 +1,26 @@
--- `multiplexer::open` meets its contract: refused, or the lowest free slot becomes a fresh one and its pane is blank. Assumes nothing.
+-- `multiplexer::open` meets its contract: refused, or the claimed slot becomes a fresh one and its pane is blank. Assumes nothing.
 use borrow.Author.Needs.{needs}
-use Rattle.multiplexer.proofs.Replying.{openings, open-done-by, open-refused-by}
+use Rattle.multiplexer.proofs.Replying.{openings, replies-refused, open-done-by}
 use Rattle.multiplexer.proofs.open.Statement.{statement}
 use Rattle.multiplexer.proofs.open.Tie as tie
 
-open-status-requires : tie.Need-open-status-requires
-open-status-requires c κs = search needs
+claim-slot-requires : tie.Need-claim-slot-requires
+claim-slot-requires c κs = search needs
 
-status-number-requires : tie.Need-status-number-requires
-status-number-requires c κs = search needs
+located-on-requires : tie.Need-located-on-requires
+located-on-requires c κs = search needs
+
+enum-known-located : tie.Need-enum-known-located
+enum-known-located c = search needs
+
+answer-of-requires : tie.Need-answer-of-requires
+answer-of-requires c κs = search needs
+
+enum-known-located-2 : tie.Need-enum-known-located-2
+enum-known-located-2 c = search needs
 
 clear-requires : tie.Need-clear-requires
 clear-requires c κs = search (openings, needs)
-
-find-client-requires : tie.Need-find-client-requires
-find-client-requires c κs = search needs
 
 fresh-port-requires : tie.Need-fresh-port-requires
 fresh-port-requires c κs = search needs
@@ -23,40 +29,37 @@ new-slot-requires : tie.Need-new-slot-requires
 new-slot-requires c κs = search needs
 
 with-slot-requires : tie.Need-with-slot-requires
-with-slot-requires c κs = search openings
+with-slot-requires c κs = search (openings, needs)
 
-answer-with-requires : tie.Need-answer-with-requires
-answer-with-requires c κs = search needs
+answer-of-requires-2 : tie.Need-answer-of-requires-2
+answer-of-requires-2 c κs = search needs
+
+returns : tie.Need-returns
+returns c = search replies-refused
 
 same-length : tie.Need-same-length
 same-length c = search needs
 
-returns : tie.Need-returns
-returns c =
-    let status = c .before .before .before .before .before .before .before .before .before .before .before .open-status .ensures in
-    let number = c .before .before .before .before .before .before .before .before .before .before .status-number .ensures in
-    let done = c .before .before .before .before .before .before .before .before .before .if1 .taken in
-    search open-done-by
-
-answer-with-requires-2 : tie.Need-answer-with-requires-2
-answer-with-requires-2 c κs = search needs
-
 returns-2 : tie.Need-returns-2
-returns-2 c = search open-refused-by
+returns-2 c =
+    let on = c .before .before .before .before .before .before .before .before .before .before .before .located-on .ensures in
+    let claim = c .before .before .before .before .before .before .before .before .before .before .before .before .claim-slot .ensures in
+    search open-done-by
 
 pub open-spec : {M : Type 1} → statement M
 open-spec =
     tie.close
     (tie.spec
-    open-status-requires
-    status-number-requires
+    claim-slot-requires
+    located-on-requires
+    enum-known-located
+    answer-of-requires
+    enum-known-located-2
     clear-requires
-    find-client-requires
     fresh-port-requires
     new-slot-requires
     with-slot-requires
-    answer-with-requires
-    same-length
+    answer-of-requires-2
     returns
-    answer-with-requires-2
+    same-length
     returns-2)

@@ -1,46 +1,50 @@
--- `multiplexer::write` meets its contract: refused before it starts, or the console's reply to the slot's port, put back. Assumes nothing.
+-- `multiplexer::write` meets its contract: refused before it starts, or the reply of `calls` to the slot's port, put back. Assumes nothing.
 use borrow.Author.Needs.{needs}
-use Rattle.multiplexer.proofs.Replying.{place-below, client-refused, client-served}
+use Rattle.multiplexer.proofs.Replying.{places, replies-refused, replies-relayed}
 use Rattle.multiplexer.proofs.write.Statement.{statement}
 use Rattle.multiplexer.proofs.write.Tie as tie
 
-locate-on-requires : tie.Need-locate-on-requires
-locate-on-requires c κs = search needs
+client-slot-requires : tie.Need-client-slot-requires
+client-slot-requires c κs = search needs
+
+located-on-requires : tie.Need-located-on-requires
+located-on-requires c κs = search needs
 
 enum-known-located : tie.Need-enum-known-located
 enum-known-located c = search needs
 
-answer-with-requires : tie.Need-answer-with-requires
-answer-with-requires c κs = search needs
+answer-of-requires : tie.Need-answer-of-requires
+answer-of-requires c κs = search needs
 
 enum-known-located-2 : tie.Need-enum-known-located-2
 enum-known-located-2 c = search needs
 
 port-at-requires : tie.Need-port-at-requires
-port-at-requires c κs = search place-below
+port-at-requires c κs = search (places, needs)
 
 write-requires : tie.Need-write-requires
-write-requires c κs = search needs
+write-requires c κs = search (places, needs)
 
 relay-requires : tie.Need-relay-requires
-relay-requires c κs = search place-below
+relay-requires c κs = search (places, needs)
 
 returns : tie.Need-returns
-returns c = search client-refused
+returns c = search replies-refused
 
 same-length : tie.Need-same-length
 same-length c = search needs
 
 returns-2 : tie.Need-returns-2
-returns-2 c = search client-served
+returns-2 c = search replies-relayed
 
 pub write-spec : {M : Type 1} → statement M
 write-spec =
     tie.close
     (tie.spec
-    locate-on-requires
+    client-slot-requires
+    located-on-requires
     enum-known-located
-    answer-with-requires
+    answer-of-requires
     enum-known-located-2
     port-at-requires
     write-requires

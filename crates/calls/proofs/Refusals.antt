@@ -1,0 +1,28 @@
+-- A call that is refused with 9 or 10 changes nothing and counts 0. Assumes nothing.
+use Prim.Native.Nat.{ℕ}
+use mathlib.Core.Path.{refl}
+use mathlib.Core.List.{List}
+use lib.Dec.{ltb}
+use lib.ListN.{length}
+use Rattle.laws.proofs.Tests.{by-test}
+use Rattle.block.specs.Block.{blockLength, blockFits}
+use Rattle.port.specs.declared.Port.{Port}
+use Rattle.reply.specs.declared.Status.the-variants.{Done}
+use Rattle.reply.specs.Laws.{ChangesNothing}
+use Rattle.calls.specs.Calls.{PortReply, written, blockReturned, blockRestored}
+
+module _ (p : Port) (s block : List ℕ) where
+  abbrev pub Unchanged : PortReply → Type 0
+  Unchanged = ChangesNothing Done 0 p s block
+
+  pub written-refuses : Unchanged (written p s block)
+  unfolding written
+  written-refuses e = absurd (e refl)
+
+  pub returned-refuses : Unchanged (blockReturned p s block)
+  unfolding blockReturned
+  returned-refuses = by-test Unchanged (ltb (length block) (blockLength (p .view .viewport))) (λ _ e. refl) (λ _ e. absurd (e refl))
+
+  pub restored-refuses : Unchanged (blockRestored p s block)
+  unfolding blockRestored
+  restored-refuses = by-test Unchanged (blockFits (p .view .viewport) block) (λ _ e. absurd (e refl)) (λ _ e. refl)

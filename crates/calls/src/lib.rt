@@ -1,0 +1,77 @@
+// The calls below their judging: what a write, a block return and a block restore do to a valid port and a screen of 1,920 bytes. `console` and `multiplexer` judge a call and make it here.
+use block::block_fits;
+use block::block_length;
+use block::copy_in;
+use block::copy_out;
+use executor::carry_single;
+use executor::carry_stream;
+use port::Port;
+use reply::Status;
+ghost use mathlib.Core.Path.{_≡_};
+ghost use mathlib.Core.List.{[], _∷_};
+ghost use lib.ListN.{length};
+ghost use Rattle.port.specs.Valid.{Valid};
+ghost use Rattle.reply.specs.Reply.{Replies};
+ghost use Rattle.calls.specs.Calls.{written, blockReturned, blockRestored, answerOf};
+
+// What a call on a port hands back: the status, the port, and the count of bells or of bytes.
+pub struct Answer {
+    pub status: Status,
+    pub port: Port,
+    pub count: usize,
+}
+
+pub fn answer_of(status: Status, port: Port, count: usize) -> Answer
+    ensures { λ r. ⌜ r ≡ answerOf status port count ⌝ }
+{
+    Answer {
+        status,
+        port,
+        count,
+    }
+}
+
+// Obeys a stream: each byte does what paper 01's tables say. The count is of the bells that it rang.
+pub fn write(p: Port, screen: &mut [u8], bytes: &[u8]) -> Answer
+    requires { ⌜ Valid p × (length (now screen) ≡ 1920) ⌝ }
+    ensures { λ r. ⌜ Replies (written p (now (screen .entry)) (now (bytes .entry))) (r .status) (r .port) (r .count) (now (screen .exit)) (now (bytes .entry)) ⌝ }
+{
+    let written = carry_stream(screen, p, bytes);
+    answer_of(Status::Done, written.port, written.bells)
+}
+
+// A write of one byte.
+pub fn write_byte(p: Port, screen: &mut [u8], byte: u8) -> Answer
+    requires { ⌜ Valid p × (length (now screen) ≡ 1920) ⌝ }
+    ensures { λ r. ⌜ Replies (written p (now (screen .entry)) (byte ∷ [])) (r .status) (r .port) (r .count) (now (screen .exit)) (byte ∷ []) ⌝ }
+{
+    let written = carry_single(screen, p, byte);
+    answer_of(Status::Done, written.port, written.bells)
+}
+
+// Hands the viewport's text out: the block fills the front of the lent one. The count is of its bytes.
+pub fn return_block(p: Port, screen: &[u8], block: &mut [u8]) -> Answer
+    requires { ⌜ Valid p × (length (now screen) ≡ 1920) ⌝ }
+    ensures { λ r. ⌜ Replies (blockReturned p (now (screen .entry)) (now (block .entry))) (r .status) (r .port) (r .count) (now (screen .entry)) (now (block .exit)) ⌝ }
+{
+    let rect = p.view.viewport;
+    let size = block_length(rect);
+    if block.len() < size {
+        return answer_of(Status::BlockTooShort, p, 0);
+    }
+    copy_out(screen, rect, block);
+    answer_of(Status::Done, p, size)
+}
+
+// Puts a block's text into the viewport. The cursor stays.
+pub fn restore_block(p: Port, screen: &mut [u8], block: &[u8]) -> Answer
+    requires { ⌜ Valid p × (length (now screen) ≡ 1920) ⌝ }
+    ensures { λ r. ⌜ Replies (blockRestored p (now (screen .entry)) (now (block .entry))) (r .status) (r .port) (r .count) (now (screen .exit)) (now (block .entry)) ⌝ }
+{
+    let rect = p.view.viewport;
+    if block_fits(rect, block) {
+        copy_in(screen, rect, block);
+        return answer_of(Status::Done, p, 0);
+    }
+    answer_of(Status::BlockMismatch, p, 0)
+}

@@ -1,0 +1,93 @@
+-- When a claim of a slot is refused, and when not. Assumes nothing.
+use Prim.Native.Nat.{ℕ, zero, suc, _<_}
+use native.Mathlib.Omega.{arith}
+use mathlib.Core.Path.{_≡_, sym}
+use mathlib.Core.Bool.{Bool, not, _||_}
+use mathlib.Core.Logic.{_⊎_, inl, inr, ⊎-elim}
+use lib.Dec.{leb, eqb}
+use borrow.Author.Tests.{not-false, eqb-false, ne-eqb, leb-false, lt-leb}
+use Rattle.laws.proofs.Tests.{not-both, Decides, decides-eq, decides-both, decides-as, fails, decides-not, decides-either}
+use Rattle.rectangle.specs.declared.Rect.{Rect}
+use Rattle.rectangle.specs.Cells.{Inside}
+use Rattle.rectangle.specs.Rectangles.{legal, Legal}
+use Rattle.rectangle.proofs.Rectangles.{decides-legal}
+use Rattle.rectangle.proofs.Overlaps.{Overlap, decides-overlap, cell-overlap, overlap-cell}
+use Rattle.reply.specs.declared.Status.the-variants.{Invalid, ClientZero, PaneIllegal, ClientTaken, PaneShared, Full}
+use Rattle.slots.specs.declared.Multiplexer.{Multiplexer}
+use Rattle.slots.specs.State.{slotAt, pane, Open, slotOf, hasClient, Closed}
+use Rattle.slots.specs.Valid.{validMultiplexer, ValidMultiplexer}
+use Rattle.slots.specs.Panes.{sharesPane, paneShared}
+use Rattle.slots.proofs.Validity.{decides-multiplexer}
+use Rattle.slots.proofs.Slots.{decides-client}
+use Rattle.multiplexer.specs.declared.Located.the-variants.{At}
+use Rattle.multiplexer.specs.Located.{freeSlotFor, claimSlot}
+use Rattle.multiplexer.proofs.Chains.{not-refused}
+
+-- ---- a pane that shares a cell with an open one
+decides-any : (t : ℕ → Bool) (P : ℕ → Type 0) → ((i : ℕ) → Decides (t i) (P i)) → Decides ((t 0 || t 1) || (t 2 || t 3)) ((i : ℕ) × (i < 4) × P i)
+decides-any t P d =
+    decides-as (decides-either (decides-either (d 0) (d 1)) (decides-either (d 2) (d 3)))
+    (λ k. ⊎-elim (λ a. ⊎-elim (λ p. (0, omega arith, p)) (λ p. (1, omega arith, p)) a) (λ a. ⊎-elim (λ p. (2, omega arith, p)) (λ p. (3, omega arith, p)) a) k)
+    (λ k. which (k .0) (k .1) (k .2))
+  where
+    which : (i : ℕ) → i < 4 → P i → (P 0 ⊎ P 1) ⊎ (P 2 ⊎ P 3)
+    which zero h p = inl (inl p)
+    which (suc zero) h p = inl (inr p)
+    which (suc (suc zero)) h p = inr (inl p)
+    which (suc (suc (suc zero))) h p = inr (inr p)
+    which (suc (suc (suc (suc i)))) h p = absurd (omega arith)
+
+pub decides-pane-shared : (m : Multiplexer) → ValidMultiplexer m → (r : Rect) → Legal r
+    → Decides (paneShared m r) ((i : ℕ) × Open m i × ((k : ℕ) × Inside (pane m i) k × Inside r k))
+unfolding paneShared
+decides-pane-shared m v r l =
+    decides-as
+    (decides-any (λ i. sharesPane r (slotAt m i)) (λ i. (slotAt m i .client ≡ 0 → ⊥) × Overlap (pane m i) r) (λ i. decides-both (decides-not (decides-eq _ 0)) (decides-overlap (pane m i) r)))
+    (λ k. let o : Open m (k .0) = (k .1, k .2 .0) in (k .0, o, overlap-cell (pane m (k .0)) r (v .ports (k .0) o .home) l (k .2 .1)))
+    (λ k. (k .0, k .1 .0, (k .1 .1, cell-overlap (k .2 .1) (k .2 .2))))
+
+-- ---- when a claim is not refused
+-- none of the refusals 2 to 7 applies
+pub record Claims (m : Multiplexer) (n : ℕ) (r : Rect) : Type 0 where
+  pub valid : ValidMultiplexer m
+  pub not-zero : n ≡ 0 → ⊥
+  pub legal : Legal r
+  pub new : Closed m n
+  pub apart : (i : ℕ) → Open m i → (k : ℕ) → Inside (pane m i) k → Inside r k → ⊥
+  pub room : slotOf m 0 < 4
+
+module _ (m : Multiplexer) (n : ℕ) (r : Rect) where
+  -- none applies, and the place is that of the lowest free slot
+  pub claims : (i : ℕ) → claimSlot m n r ≡ At i → Claims m n r × (i ≡ slotOf m 0)
+  unfolding claimSlot freeSlotFor
+  claims i e =
+      let a = not-refused (not (validMultiplexer m)) Invalid _ e in
+      let b = not-refused (eqb n 0) ClientZero _ (a .1) in
+      let c = not-refused (not (legal r)) PaneIllegal _ (b .1) in
+      let d = not-refused (hasClient m n) ClientTaken _ (c .1) in
+      let f = not-refused (paneShared m r) PaneShared _ (d .1) in
+      let g = not-refused (leb 4 (slotOf m 0)) Full _ (f .1) in
+      let v = decides-multiplexer m .holds (not-false _ (a .0)) in
+      let l = decides-legal r .holds (not-false _ (c .0)) in (
+        record {
+          valid = v;
+          not-zero = eqb-false _ _ (b .0);
+          legal = l;
+          new = λ j o k. not-both (decides-client m n .passes (j, o, k)) (d .0);
+          apart = λ j o k x y. not-both (decides-pane-shared m v r l .passes (j, o, (k, x, y))) (f .0);
+          room = leb-false _ _ (g .0);
+        },
+        (let at = g .1 in cc),
+      )
+
+  pub claims-lowest : Claims m n r → claimSlot m n r ≡ At (slotOf m 0)
+  unfolding claimSlot freeSlotFor
+  claims-lowest o =
+      simp (
+        decides-multiplexer m .passes (o .valid),
+        ne-eqb _ _ (o .not-zero),
+        decides-legal r .passes (o .legal),
+        fails (decides-client m n) (λ k. o .new (k .0) (k .1) (k .2)),
+        fails (decides-pane-shared m (o .valid) r (o .legal)) (λ k. o .apart (k .0) (k .1) (k .2 .0) (k .2 .1) (k .2 .2)),
+        lt-leb _ _ (o .room),
+      )

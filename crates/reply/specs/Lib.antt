@@ -1,0 +1,4 @@
+-- `Numbers`: the paper's number of each status. `Reply`: all that a call leaves, and what a call promises, over the types of its status, state and result. `Laws`: what is claimed of several replies.
+pub mod Numbers
+pub mod Reply
+pub mod Laws

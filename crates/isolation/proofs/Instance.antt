@@ -14,12 +14,11 @@ use Rattle.rectangle.specs.Edit.{vacated, editedCell, edited, draw}
 use Rattle.laws.proofs.Tests.{not-both}
 use Rattle.rectangle.proofs.Local.{length-edited, edited-at}
 use Rattle.charset.specs.Stored.{inRange, storedSymbol, storedCapital, storedHigh, storedByte}
-use Rattle.rectangle.specs.Rectangles.{rectOf, legal, within, isZeroRect, sharesCell}
-use Rattle.port.specs.State.{zeroView, defaultView, freshPort}
-use Rattle.port.specs.Valid.{cursorInside, validView, noFlags, isZeroView, validSaved, parameters, usedOrZero, unusedZero, countFits, validWait, valid}
+use Rattle.rectangle.specs.Rectangles.{rectOf, legal, sharesCell}
+use Rattle.port.specs.State.{cursorAt, withView, freshPort}
+use Rattle.port.specs.Valid.{parameters}
 use Rattle.port.specs.Codes.{moveCursorRight, modeOf, storeCell, advanced, printByte, print}
-use Rattle.port.specs.Effect.{cursorAt}
-use Rattle.port.specs.Step.{withView, control, obey, step}
+use Rattle.port.specs.Step.{control, obey, step}
 use Rattle.port.specs.Stream.{stream}
 use Rattle.block.specs.Block.{blockLength, blockFits, blockPlace}
 use Rattle.block.proofs.Restores.{restored-inside}
@@ -29,7 +28,7 @@ use Rattle.console.specs.Calls.{written, blockReturned, blockRestored}
 use Rattle.slots.specs.declared.Multiplexer.{Multiplexer}
 use Rattle.slots.specs.State.{freeSlot, freshMultiplexer, Open, slotOf, hasClient, freshSlot, Closed}
 use Rattle.slots.specs.Panes.{paneShared}
-use Rattle.slots.specs.Valid.{isZeroPort, validSlot, compatible, validSlots, validMultiplexer, ValidMultiplexer}
+use Rattle.slots.specs.Valid.{validMultiplexer, ValidMultiplexer}
 use Rattle.multiplexer.specs.Calls.{Reply, openStatus, opened, openCall}
 use Rattle.isolation.specs.Isolation.{Kind, Request, Call, Answer, serve, serveAll, requestsOf, standalone, answersTo, Isolated, SameEnd}
 use Rattle.isolation.specs.Isolation.Kind.{Write, Return, Restore}
@@ -62,18 +61,20 @@ unfolding blankScreen
 blank-length = simp length-replicate
 
 first-opened : firstOpening ≡ opened freshMultiplexer blankScreen 7 leftPane
-unfolding firstOpening openCall openStatus validMultiplexer validSlots validSlot compatible isZeroPort freeSlot zeroView isZeroRect isZeroView noFlags unusedZero usedOrZero slotOf hasClient paneShared legal
-first-opened = rw blank-length
+unfolding firstOpening openCall openStatus freeSlot slotOf hasClient paneShared legal
+first-opened = rw (blank-length, decides-multiplexer freshMultiplexer .passes fresh-multiplexer)
+
+first-valid : ValidMultiplexer (firstOpening .multiplexer)
+unfolding firstOpening
+first-valid = open-valid freshMultiplexer blankScreen 7 leftPane fresh-multiplexer
 
 second-opened : secondOpening .multiplexer ≡ pair
-unfolding secondOpening pair openCall openStatus validMultiplexer validSlots validSlot compatible isZeroPort freeSlot zeroView isZeroRect isZeroView noFlags unusedZero usedOrZero slotOf hasClient paneShared legal sharesCell valid validView within cursorInside validSaved validWait countFits
-second-opened = rw (first-opened, length-edited leftPane Clear 0xa0 blankScreen)
+unfolding secondOpening pair openCall openStatus freeSlot slotOf hasClient paneShared legal sharesCell
+second-opened = rw (decides-multiplexer (firstOpening .multiplexer) .passes first-valid, first-opened, length-edited leftPane Clear 0xa0 blankScreen)
 
 pub pair-valid : validMultiplexer pair ≡ true
-unfolding firstOpening secondOpening
-pair-valid =
-    decides-multiplexer pair .passes
-    (subst ValidMultiplexer second-opened (open-valid (firstOpening .multiplexer) (firstOpening .screen) 200 rightPane (open-valid freshMultiplexer blankScreen 7 leftPane fresh-multiplexer)))
+unfolding secondOpening
+pair-valid = decides-multiplexer pair .passes (subst ValidMultiplexer second-opened (open-valid (firstOpening .multiplexer) (firstOpening .screen) 200 rightPane first-valid))
 
 abbrev by : ℕ → Request → Call
 by n q = record { client = n; request = q }
@@ -109,7 +110,7 @@ right-open = (omega arith, λ e. omega arith)
 wroteIn : Rect → List ℕ → List ℕ → ℕ → ℕ → console.Reply
 wroteIn home s bytes stored bells = record {
   status = consoleStatus.the-variants.Done;
-  port = withView (freshPort home) (cursorAt (defaultView home) (home .left + 1) (home .top));
+  port = withView (freshPort home) (cursorAt (freshPort home .view) (home .left + 1) (home .top));
   count = bells;
   screen = edited (rectOf (home .left) (home .top) (home .left) (home .top)) Clear stored s;
   block = bytes;

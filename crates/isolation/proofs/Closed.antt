@@ -7,7 +7,7 @@ use mathlib.Core.List.{[]}
 use Rattle.slots.specs.declared.Multiplexer.{Multiplexer}
 use Rattle.multiplexer.specs.declared.Status.the-variants.{Done, NotOpen}
 use Rattle.slots.specs.State.{freeSlot, freshMultiplexer, slotAt, Open, Closed}
-use Rattle.slots.specs.Valid.{validSlot, compatible, validSlots, validMultiplexer, ValidMultiplexer}
+use Rattle.slots.specs.Valid.{compatible, validSlots, validMultiplexer, ValidMultiplexer}
 use Rattle.multiplexer.specs.Calls.{Reply, refusal, closeCall}
 use Rattle.slots.proofs.Validity.{decides-slot, free-valid, decides-multiplexer}
 use Rattle.laws.proofs.Tests.{fails}

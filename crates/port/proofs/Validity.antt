@@ -1,13 +1,13 @@
 -- The tests for validity and for a free slot's port are true exactly when paper 01's clauses hold; what keeps a port valid; and a fresh port of a legal home is valid. Assumes nothing.
 use Prim.Native.Nat.{ℕ, _≤_, _<_}
 use mathlib.Core.Path.{_≡_, refl, ap}
-use mathlib.Core.Bool.{Bool, true, false, not, _||_}
+use mathlib.Core.Bool.{Bool, true, false, _||_}
 use mathlib.Core.Logic.{inl, inr, ⊎-elim}
 use mathlib.Core.List.{List}
 use native.Mathlib.Omega.{arith}
 use lib.Dec.{ltb, eqb}
 use lib.ListN.{getD}
-use borrow.Author.Tests.{eqb-true, eqb-false, eq-eqb, ne-eqb, not-true}
+use borrow.Author.Tests.{eqb-true, eqb-false, eq-eqb, ne-eqb}
 use Rattle.rectangle.proofs.Rectangles.{decides-legal, decides-within, decides-zero-rect}
 use Rattle.rectangle.specs.declared.Rect.{Rect}
 use Rattle.laws.proofs.Tests.{tested, not-both, Decides, decides-lt, decides-le, decides-eq, decides-both, decides-if, decides-unless, decides-four, decides-as, decides-off}

@@ -1,4 +1,4 @@
--- Paper 01, 'Screen and port': the state. A field of a port or a view is written out in the zero state and in each setter, and nowhere else: a new field changes these, its rule of validity, and nothing that goes through them. Assumes nothing.
+-- Paper 01, 'Screen and port': the zero state, a setter for each part, the default and the fresh state. Only the zero state and the setters list the fields of a port or a view: all other definitions go through them. Assumes nothing.
 use Prim.Native.Nat.{ℕ}
 use mathlib.Core.Bool.{Bool, true, false}
 use mathlib.Core.List.{List, [], _∷_}
@@ -8,12 +8,12 @@ use Rattle.port.specs.declared.Flags.{Flags}
 use Rattle.port.specs.declared.View.{View}
 use Rattle.port.specs.declared.Port.{Port}
 
--- ---- every field 0 or false
 -- 'all five flags', on or off
 abbrev pub allFlags : Bool → Flags
 allFlags on = record { dle = on; scroll = on; wrap = on; lf = on; advance = on }
 
--- (stays folded: proofs that do not look into it stay short)
+-- ---- every field 0 or false
+-- (a name that stays folded: proofs that do not look into it stay short)
 unfoldable pub zeroView : View
 zeroView = record { viewport = rectOf 0 0 0 0; column = 0; line = 0; flags = allFlags false; inverse = false; mousetext = false }
 
@@ -24,25 +24,28 @@ noParameters = 0 ∷ 0 ∷ 0 ∷ 0 ∷ []
 abbrev pub zeroPort : Port
 zeroPort = record { home = rectOf 0 0 0 0; view = zeroView; hassaved = false; saved = zeroView; waiting = 0; gathered = noParameters; count = 0 }
 
--- ---- a view with other values in some of its fields
--- its cursor elsewhere
+-- ---- a view with one part set
+-- 'a viewport'; where one is set, 'the cursor goes to its top left'
+abbrev pub withViewport : View → Rect → View
+withViewport v r = record { viewport = r; column = r .left; line = r .top; flags = v .flags; inverse = v .inverse; mousetext = v .mousetext }
+
+-- 'a cursor (absolute column and line)'
 abbrev pub cursorAt : View → ℕ → ℕ → View
 cursorAt v column line =
     record { viewport = v .viewport; column = column; line = line; flags = v .flags; inverse = v .inverse; mousetext = v .mousetext }
 
+-- 'five flags (DLE, scroll, wrap, LF, advance)'
 abbrev pub withFlags : View → Flags → View
 withFlags v flags =
     record { viewport = v .viewport; column = v .column; line = v .line; flags = flags; inverse = v .inverse; mousetext = v .mousetext }
 
+-- 'inverse, MouseText'
 abbrev pub withModes : View → Bool → Bool → View
 withModes v inverse mousetext =
     record { viewport = v .viewport; column = v .column; line = v .line; flags = v .flags; inverse = inverse; mousetext = mousetext }
 
--- another viewport, 'and the cursor goes to its top left'
-abbrev pub withViewport : View → Rect → View
-withViewport v r = record { viewport = r; column = r .left; line = r .top; flags = v .flags; inverse = v .inverse; mousetext = v .mousetext }
-
--- ---- a port with other values in some of its fields
+-- ---- a port with one part set
+-- 'a home rectangle'
 abbrev pub withHome : Port → Rect → Port
 withHome p home =
     record { home = home; view = p .view; hassaved = p .hassaved; saved = p .saved; waiting = p .waiting; gathered = p .gathered; count = p .count }

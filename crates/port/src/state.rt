@@ -1,4 +1,4 @@
-// The state: the zero state, and a setter for each part that changes. No other file writes a field of a port or a view.
+// The zero state, a setter for each part, the default and the fresh state. Nothing else stores to a field of a port or a view.
 use super::Flags;
 use super::Port;
 use super::View;
@@ -56,7 +56,18 @@ pub fn zero_port() -> Port
     }
 }
 
-// The cursor elsewhere.
+// The view with another viewport, and the cursor at its top left.
+pub fn with_viewport(v: View, rect: Rect) -> View
+    ensures { λ r. ⌜ r ≡ rules.withViewport v rect ⌝ }
+{
+    let mut next = v;
+    next.viewport = rect;
+    next.column = rect.left;
+    next.line = rect.top;
+    next
+}
+
+// The view with its cursor elsewhere.
 pub fn cursor_at(v: View, column: u8, line: u8) -> View
     ensures { λ r. ⌜ r ≡ rules.cursorAt v column line ⌝ }
 {
@@ -80,17 +91,6 @@ pub fn with_modes(v: View, inverse: bool, mousetext: bool) -> View
     let mut next = v;
     next.inverse = inverse;
     next.mousetext = mousetext;
-    next
-}
-
-// Another viewport, with the cursor at its top left.
-pub fn with_viewport(v: View, rect: Rect) -> View
-    ensures { λ r. ⌜ r ≡ rules.withViewport v rect ⌝ }
-{
-    let mut next = v;
-    next.viewport = rect;
-    next.column = rect.left;
-    next.line = rect.top;
     next
 }
 

@@ -1,14 +1,14 @@
--- The test for validity is true exactly when paper 01's clauses hold. Assumes nothing.
+-- The test for validity is true exactly when paper 01's clauses hold, and a free slot is valid. Assumes nothing.
 use Prim.Native.Nat.{ℕ, zero, suc, _<_}
 use native.Mathlib.Omega.{arith}
-use mathlib.Core.Path.{_≡_, refl, sym, ap}
+use mathlib.Core.Path.{_≡_, refl, sym}
 use mathlib.Core.Bool.{Bool, _&&_}
-use mathlib.Core.Logic.{_⊎_, inl, inr, ⊎-elim}
+use mathlib.Core.Logic.{inl, inr, ⊎-elim}
 use lib.Dec.{eqb}
 use lib.ListN.{length}
 use borrow.Author.Tests.{eqb-true, eqb-false, eq-eqb, ne-eqb}
 use Rattle.rectangle.specs.Rectangles.{Apart}
-use Rattle.laws.proofs.Tests.{tested, not-both, below?, Decides, decides-eq, decides-both, decides-if, decides-as, decides-four, decides-else, decides-either, decides-not}
+use Rattle.laws.proofs.Tests.{below?, Decides, decides-eq, decides-both, decides-if, decides-as, decides-four, decides-else, decides-either, decides-not}
 use Rattle.port.specs.Valid.{Valid, ZeroPort}
 use Rattle.port.proofs.Validity.{decides-valid, decides-zero-port, zero-port-is-zero}
 use Rattle.slots.specs.declared.Slot.{Slot}

@@ -1,5 +1,5 @@
 -- Paper 01, 'Screen and port': when a multiplexer is sound, here called valid: as a test, and beside it as propositions. Assumes nothing.
-use Prim.Native.Nat.{ℕ, _<_}
+use Prim.Native.Nat.{ℕ}
 use mathlib.Core.Path.{_≡_}
 use mathlib.Core.Bool.{Bool, cond, not, _&&_, _||_}
 use lib.Dec.{eqb}

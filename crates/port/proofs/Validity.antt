@@ -47,7 +47,7 @@ decides-no-flags f =
     ))
 
 -- a view is zero where each part is: the setters together set every field
-pub decides-zero-view : (v : View) → Decides (isZeroView v) (v ≡ zeroView)
+decides-zero-view : (v : View) → Decides (isZeroView v) (v ≡ zeroView)
 unfolding isZeroView zeroView
 decides-zero-view v =
     decides-as

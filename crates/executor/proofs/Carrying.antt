@@ -19,9 +19,10 @@ use Rattle.charset.specs.declared.Mode.{Mode}
 use Rattle.charset.specs.Stored.{storedByte}
 use Rattle.port.specs.declared.View.{View}
 use Rattle.port.specs.declared.Port.{Port}
+use Rattle.port.specs.State.{withView}
 use Rattle.port.specs.Valid.{parameters, Valid}
 use Rattle.port.specs.Codes.{modeOf, printByte, print, spaces}
-use Rattle.port.specs.Step.{Outcome, withView, onView, step}
+use Rattle.port.specs.Step.{Outcome, onView, step}
 use Rattle.port.specs.Stream.{stream}
 use Rattle.port.proofs.Steps.{keeps-step}
 use Rattle.port.proofs.Bells.{one-bell}

@@ -1,25 +1,19 @@
 -- The fresh multiplexer is valid; what a closing leaves; and every closing leaves a valid multiplexer valid. Assumes nothing.
 use Prim.Native.Nat.{ℕ}
 use mathlib.Core.Path.{_≡_, refl}
+use mathlib.Core.Bool.{true}
 use mathlib.Core.Logic.{⊎-elim}
 use mathlib.Core.List.{[]}
-use Rattle.port.specs.State.{zeroView}
-use Rattle.rectangle.specs.Rectangles.{isZeroRect}
-use Rattle.port.specs.Valid.{isZeroView, noFlags, unusedZero, usedOrZero}
 use Rattle.slots.specs.declared.Multiplexer.{Multiplexer}
 use Rattle.reply.specs.declared.Status.the-variants.{Done, NotOpen}
 use Rattle.reply.specs.Reply.{refusal}
 use Rattle.slots.specs.State.{freeSlot, freshMultiplexer, slotAt, Open, Closed}
-use Rattle.slots.specs.Valid.{isZeroPort, validSlot, compatible, validSlots, validMultiplexer, ValidMultiplexer}
+use Rattle.slots.specs.Valid.{compatible, validSlots, validMultiplexer, ValidMultiplexer}
+use Rattle.slots.proofs.Validity.{decides-slot, free-valid, decides-multiplexer}
+use Rattle.slots.proofs.Slots.{client?, slot-set, slot-kept, set-valid}
 use Rattle.multiplexer.specs.Calls.{MultiplexerReply, closeCall}
 use Rattle.multiplexer.proofs.Clients.{goes-to-slot, goes-nowhere}
 use Rattle.multiplexer.proofs.Replying.{at-slot, at-refusal}
-use Rattle.slots.proofs.Validity.{SlotFacts, decides-zero-port, decides-multiplexer}
-use Rattle.slots.proofs.Slots.{client?, slot-set, slot-kept, set-valid}
-
-free-valid : SlotFacts freeSlot
-unfolding freeSlot isZeroPort isZeroRect isZeroView noFlags zeroView unusedZero usedOrZero
-free-valid = (λ _. decides-zero-port _ .holds refl, λ n. absurd (n refl))
 
 pub record Closing (m : Multiplexer) (i : ℕ) (reply : MultiplexerReply) : Type 0 where
   pub status : reply .status ≡ Done
@@ -45,7 +39,11 @@ pub close-valid : (m : Multiplexer) (n : ℕ) → ValidMultiplexer m → ValidMu
 close-valid m n v =
     ⊎-elim (λ k. closed-leaves m n v (k .0) (k .1) (k .2) .valid) (λ h. rw (close-refused m n v h) v) (client? m n)
 
--- a fresh multiplexer is valid
+-- a fresh multiplexer is valid: each of its slots is, and no two of them are open
+free-compatible : compatible freeSlot freeSlot ≡ true
+unfolding compatible freeSlot
+free-compatible = refl
+
 pub fresh-multiplexer : ValidMultiplexer freshMultiplexer
-unfolding freeSlot isZeroPort isZeroRect isZeroView noFlags zeroView unusedZero usedOrZero validMultiplexer validSlots validSlot compatible
-fresh-multiplexer = decides-multiplexer freshMultiplexer .holds refl
+unfolding validMultiplexer validSlots
+fresh-multiplexer = decides-multiplexer freshMultiplexer .holds (simp (decides-slot freeSlot .passes free-valid, free-compatible))

@@ -16,11 +16,10 @@ use Rattle.rectangle.specs.Edit.{vacated, editedCell, edited, draw}
 use Rattle.rectangle.proofs.Local.{length-edited, edited-at}
 use Rattle.charset.specs.Stored.{inRange, storedSymbol, storedCapital, storedHigh, storedByte}
 use Rattle.port.specs.declared.Port.{Port}
-use Rattle.port.specs.State.{freshPort}
+use Rattle.port.specs.State.{cursorAt, withView, freshPort}
 use Rattle.port.specs.Valid.{parameters}
 use Rattle.port.specs.Codes.{moveCursorRight, modeOf, storeCell, advanced, printByte, print}
-use Rattle.port.specs.Effect.{cursorAt}
-use Rattle.port.specs.Step.{withView, control, obey, step}
+use Rattle.port.specs.Step.{control, obey, step}
 use Rattle.port.specs.Stream.{stream}
 use Rattle.block.specs.Block.{blockLength, blockFits, blockPlace}
 use Rattle.block.proofs.Restores.{restored-inside}

@@ -9,10 +9,11 @@ use borrow.Author.Tests.{leb-true, leb-false, lt-ltb, le-ltb, ne-eqb}
 use Rattle.laws.proofs.Tests.{and-left, and-right}
 use Rattle.port.specs.declared.View.{View}
 use Rattle.port.specs.declared.Port.{Port}
+use Rattle.port.specs.State.{withView}
 use Rattle.port.specs.Valid.{parameters}
 use Rattle.port.specs.Effect.{Effect, becomes}
 use Rattle.port.specs.Codes.{spaces, dleSpaceExpansion}
-use Rattle.port.specs.Step.{withView, becomesPort, onView, ringBell, gatherOne, control, obey, perform, parameter, step}
+use Rattle.port.specs.Step.{becomesPort, onView, ringBell, gatherOne, control, obey, perform, parameter, step}
 use Rattle.view.specs.declared.Moved.{Moved}
 use Rattle.view.specs.declared.ViewPlan.{ViewPlan}
 use Rattle.view.specs.Plan.{effectOf, planEffect}

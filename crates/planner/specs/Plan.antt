@@ -4,9 +4,10 @@ use mathlib.Core.List.{_++_}
 use Prim.Native.Nat.{ℕ, _-_}
 use Rattle.port.specs.declared.View.{View}
 use Rattle.port.specs.declared.Port.{Port}
+use Rattle.port.specs.State.{withView}
 use Rattle.port.specs.Effect.{Effect}
 use Rattle.port.specs.Codes.{spaces}
-use Rattle.port.specs.Step.{Outcome, withView}
+use Rattle.port.specs.Step.{Outcome}
 use Rattle.view.specs.declared.Change.the-variants.{Nothing}
 use Rattle.view.specs.declared.Moved.{Moved}
 use Rattle.view.specs.declared.ViewPlan.{ViewPlan}

@@ -1,30 +1,17 @@
 // $01 and $04: the saved view.
 use port::Port;
-use port::View;
 use port::state::default_view;
+use port::state::with_saved;
+use port::state::with_view;
 ghost use mathlib.Core.Path.{_≡_};
-ghost use Rattle.port.specs.Step.{withView, pushAndReset};
 ghost use Rattle.port.specs.Step as rules;
-
-// The port in another view.
-pub fn with_view(p: Port, view: View) -> Port
-    ensures { λ r. ⌜ r ≡ withView p view ⌝ }
-{
-    let mut next = p;
-    next.view = view;
-    next
-}
 
 // $01.
 pub fn push_and_reset(p: Port) -> Port
-    ensures { λ r. ⌜ r ≡ pushAndReset p ⌝ }
+    ensures { λ r. ⌜ r ≡ rules.pushAndReset p ⌝ }
 {
-    let saved = p.view;
-    let mut next = p;
-    next.view = default_view(p.home);
-    next.saved = saved;
-    next.hassaved = true;
-    next
+    let view = p.view;
+    with_view(with_saved(p, true, view), default_view(p))
 }
 
 // $04.
@@ -35,5 +22,5 @@ pub fn pop(p: Port) -> Port
         let saved = p.saved;
         return with_view(p, saved);
     }
-    with_view(p, default_view(p.home))
+    with_view(p, default_view(p))
 }

@@ -1,5 +1,6 @@
 // A command that waits for its parameters.
 use port::Port;
+use port::state::with_wait;
 ghost use mathlib.Core.Path.{_≡_};
 ghost use Prim.Native.Nat.{_<_};
 ghost use Rattle.port.specs.Step.{waitFor, gatherOne};
@@ -9,11 +10,7 @@ pub fn wait_for(p: Port, code: u8) -> Port
     ensures { λ r. ⌜ r ≡ waitFor p code ⌝ }
 {
     let none = [0u8; 4];
-    let mut next = p;
-    next.waiting = code;
-    next.gathered = none;
-    next.count = 0;
-    next
+    with_wait(p, code, none, 0)
 }
 
 // One parameter more is gathered.
@@ -25,8 +22,5 @@ pub fn gather_one(p: Port, b: u8) -> Port
     let count = p.count;
     let place = count as usize;
     gathered[place] = b;
-    let mut next = p;
-    next.gathered = gathered;
-    next.count = count + 1;
-    next
+    with_wait(p, p.waiting, gathered, count + 1)
 }

@@ -10,32 +10,27 @@ use lib.ListN.{getD, set}
 use lib.Seq.{getD-set-other}
 use borrow.Author.Tests.{ltb-true}
 use Rattle.rectangle.specs.declared.Motion.the-variants.{Up, Down}
-use Rattle.laws.proofs.Tests.{not-both, by-test}
-use Rattle.port.specs.declared.View.{View}
+use Rattle.laws.proofs.Tests.{by-test}
 use Rattle.port.specs.declared.Port.{Port}
-use Rattle.port.specs.State.{noParameters}
+use Rattle.port.specs.State.{noParameters, withSaved, defaultView}
 use Rattle.port.specs.Valid.{parameters, usedOrZero, unusedZero, countFits, validWait, ValidView, ValidWait, Valid}
 use Rattle.port.specs.Effect.{Effect}
-use Rattle.port.specs.Step.{withView, becomesPort, onView, pushAndReset, pop, waitFor, control, obey, perform, parameter, step}
+use Rattle.port.specs.Step.{becomesPort, onView, pushAndReset, pop, waitFor, control, obey, perform, parameter, step}
 use Rattle.port.specs.Keeps.{KeepsView, KeepsPort}
-use Rattle.port.proofs.Validity.{no-parameters, default-valid, none-waits, decides-wait}
+use Rattle.port.proofs.Validity.{no-parameters, view-valid, saved-valid, wait-valid, default-valid, none-waits, decides-wait}
 use Rattle.port.proofs.Views.{keeps-right, keeps-print, keeps-line-start, keeps-line-end, keeps-clear-line, keeps-clear-port, keeps-port-start, keeps-port-end, keeps-horizontal-scroll, keeps-vertical, keeps-horizontal, keeps-goto, keeps-backspace, keeps-line-feed, keeps-return, keeps-modes, keeps-flags, keeps-home-cursor, keeps-moves, keeps-up, keeps-dle, size-valid}
 
 module _ (p : Port) (h : Valid p) where
-  -- a view in the same home
-  viewed : (v : View) → ValidView (p .home) v → Valid (withView p v)
-  viewed v k = record { home = h .home; view = k; saved = h .saved; unsaved = h .unsaved; wait = h .wait }
-
   -- what keeps the view keeps the port
   keeps-view : (e : Effect) → KeepsView (p .home) (p .view) e → KeepsPort p (onView p e)
-  keeps-view e k = record { valid = viewed (e .view) (k .view); home = refl; edits = k .edits }
+  keeps-view e k = record { valid = view-valid p h (e .view) (k .view); home = refl; edits = k .edits }
 
   keeps-idle : KeepsPort p (becomesPort p)
   keeps-idle = record { valid = h; home = refl; edits = tt }
 
   keeps-push : KeepsPort p (becomesPort (pushAndReset p))
   keeps-push = record {
-    valid = record { home = h .home; view = default-valid (p .home) (h .home); saved = λ _. h .view; unsaved = λ e. absurd (not-both refl e); wait = h .wait };
+    valid = view-valid (withSaved p true (p .view)) (saved-valid p h (p .view) (h .view)) (defaultView p) (default-valid p (h .home));
     home = refl;
     edits = tt;
   }
@@ -43,22 +38,19 @@ module _ (p : Port) (h : Valid p) where
   keeps-pop : KeepsPort p (becomesPort (pop p))
   unfolding pop
   keeps-pop = record {
-    valid = viewed _ (by-test (ValidView (p .home)) (p .hassaved) (h .saved) (λ _. default-valid (p .home) (h .home)));
+    valid = view-valid p h _ (by-test (ValidView (p .home)) (p .hassaved) (h .saved) (λ _. default-valid p (h .home)));
     home = refl;
     edits = tt;
   }
 
-  -- a command that waits with nothing gathered, or none
-  waits : (code : ℕ) → ValidWait code noParameters 0 → Valid (waitFor p code)
-  waits code k = record { home = h .home; view = h .view; saved = h .saved; unsaved = h .unsaved; wait = k }
-
+  -- a command that waits with nothing gathered
   keeps-wait : (code : ℕ) → ValidWait code noParameters 0 → KeepsPort p (becomesPort (waitFor p code))
-  keeps-wait code k = record { valid = waits code k; home = refl; edits = tt }
+  keeps-wait code k = record { valid = wait-valid p h code noParameters 0 k; home = refl; edits = tt }
 
 -- a command with its last parameter: none waits any more
 keeps-performed : (p : Port) → Valid p → (e : Effect) → KeepsView (p .home) (p .view) e → KeepsPort p (onView (waitFor p 0) e)
 keeps-performed p h e k =
-    let m = keeps-view (waitFor p 0) (waits p h 0 none-waits) e k in
+    let m = keeps-view (waitFor p 0) (wait-valid p h 0 noParameters 0 none-waits) e k in
     record { valid = m .valid; home = refl; edits = m .edits }
 
 keeps-control : (p : Port) → Valid p → (code : ℕ) → KeepsPort p (control p code)
@@ -106,7 +98,7 @@ unfolding perform
 keeps-perform p h code b =
     let first : ℕ = getD (p .gathered) 0 0 in
     by-test (KeepsPort p) (eqb code 0x02)
-    (λ _. record { valid = viewed (waitFor p 0) (waits p h 0 none-waits) _ (size-valid (p .home) (p .view) (h .view) (h .home) first (getD (p .gathered) 1 0) (getD (p .gathered) 2 0) b); home = refl; edits = tt }) λ _.
+    (λ _. record { valid = view-valid (waitFor p 0) (wait-valid p h 0 noParameters 0 none-waits) _ (size-valid (p .home) (p .view) (h .view) (h .home) first (getD (p .gathered) 1 0) (getD (p .gathered) 2 0) b); home = refl; edits = tt }) λ _.
     by-test (KeepsPort p) (eqb code 0x05) (λ _. keeps-performed p h _ (keeps-horizontal-scroll (p .home) (p .view) (h .view) b)) λ _.
     by-test (KeepsPort p) (eqb code 0x06) (λ _. keeps-performed p h _ (keeps-vertical (p .home) (p .view) (h .view) b)) λ _.
     by-test (KeepsPort p) (eqb code 0x10) (λ _. keeps-performed p h _ (keeps-dle (p .home) (p .view) (h .view) b)) λ _.
@@ -128,7 +120,7 @@ unfolding parameter
 keeps-parameter p h b some =
     by-test (KeepsPort p) (ltb (p .count + 1) (parameters (p .waiting)))
     (λ t. record {
-      valid = record { home = h .home; view = h .view; saved = h .saved; unsaved = h .unsaved; wait = gathers _ _ _ b (h .wait) some (ltb-true _ _ t) };
+      valid = wait-valid p h (p .waiting) (set (p .gathered) (p .count) b) (p .count + 1) (gathers _ _ _ b (h .wait) some (ltb-true _ _ t));
       home = refl;
       edits = tt;
     })

@@ -1,21 +1,22 @@
--- The test for validity is true exactly when paper 01's clauses hold, and a fresh port of a legal home is valid. Assumes nothing.
+-- The tests for validity and for a free slot's port are true exactly when paper 01's clauses hold; what keeps a port valid; and a fresh port of a legal home is valid. Assumes nothing.
 use Prim.Native.Nat.{ℕ, _≤_, _<_}
 use mathlib.Core.Path.{_≡_, refl, ap}
-use mathlib.Core.Bool.{Bool, true, false, not, _||_}
+use mathlib.Core.Bool.{Bool, true, false, _||_}
 use mathlib.Core.Logic.{inl, inr, ⊎-elim}
 use mathlib.Core.List.{List}
 use native.Mathlib.Omega.{arith}
 use lib.Dec.{ltb, eqb}
 use lib.ListN.{getD}
-use borrow.Author.Tests.{eqb-true, eqb-false, eq-eqb, ne-eqb, not-true}
-use Rattle.rectangle.proofs.Rectangles.{decides-legal, decides-within}
+use borrow.Author.Tests.{eqb-true, eqb-false, eq-eqb, ne-eqb}
+use Rattle.rectangle.proofs.Rectangles.{decides-legal, decides-within, decides-zero-rect}
 use Rattle.rectangle.specs.declared.Rect.{Rect}
 use Rattle.laws.proofs.Tests.{tested, not-both, Decides, decides-lt, decides-le, decides-eq, decides-both, decides-if, decides-unless, decides-four, decides-as, decides-off}
+use Rattle.port.specs.declared.Flags.{Flags}
 use Rattle.port.specs.declared.View.{View}
 use Rattle.port.specs.declared.Port.{Port}
-use Rattle.rectangle.specs.Rectangles.{rectOf, legal, Legal, within, isZeroRect}
-use Rattle.port.specs.State.{zeroView, noParameters, defaultView, freshPort}
-use Rattle.port.specs.Valid.{cursorInside, validView, ValidView, noFlags, isZeroView, validSaved, parameters, usedOrZero, unusedZero, countFits, validWait, ValidWait, valid, Valid}
+use Rattle.rectangle.specs.Rectangles.{Legal}
+use Rattle.port.specs.State.{allFlags, zeroView, noParameters, zeroPort, cursorAt, withFlags, withModes, withViewport, withView, withSaved, withWait, defaultView, freshPort}
+use Rattle.port.specs.Valid.{cursorInside, validView, ValidView, noFlags, isZeroView, validSaved, parameters, usedOrZero, unusedZero, countFits, validWait, ValidWait, valid, Valid, isZeroPort, ZeroPort}
 
 pub decides-view : (home : Rect) (v : View) → Decides (validView home v) (ValidView home v)
 unfolding validView cursorInside
@@ -34,35 +35,28 @@ decides-view home v =
     })
     (λ h. ((h .legal, omega arith), ((h .from-left, h .to-right), (h .from-top, h .to-bottom))))
 
+decides-no-flags : (f : Flags) → Decides (noFlags f) (f ≡ allFlags false)
+unfolding noFlags
+decides-no-flags f =
+    decides-as
+    (decides-both (decides-both (decides-both (decides-off _) (decides-off _)) (decides-both (decides-off _) (decides-off _))) (decides-off _))
+    (λ k i. record { dle = k .0 .0 .0 i; scroll = k .0 .0 .1 i; wrap = k .0 .1 .0 i; lf = k .0 .1 .1 i; advance = k .1 i })
+    (λ e. (
+      ((ap (λ (x : Flags). x .dle) e, ap (λ (x : Flags). x .scroll) e), (ap (λ (x : Flags). x .wrap) e, ap (λ (x : Flags). x .lf) e)),
+      ap (λ (x : Flags). x .advance) e,
+    ))
+
+-- a view is zero where each part is: the setters together set every field
 decides-zero-view : (v : View) → Decides (isZeroView v) (v ≡ zeroView)
-unfolding isZeroView isZeroRect noFlags zeroView
+unfolding isZeroView zeroView
 decides-zero-view v =
     decides-as
-    (decides-both
-    (decides-both (decides-both (decides-both (decides-eq _ _) (decides-eq _ _)) (decides-both (decides-eq _ _) (decides-eq _ _))) (decides-both (decides-eq _ _) (decides-eq _ _)))
-    (decides-both
-    (decides-both (decides-both (decides-both (decides-off _) (decides-off _)) (decides-both (decides-off _) (decides-off _))) (decides-off _))
-    (decides-both (decides-off _) (decides-off _))))
-    (λ k i. record {
-      viewport = rectOf (k .0 .0 .0 .0 i) (k .0 .0 .0 .1 i) (k .0 .0 .1 .0 i) (k .0 .0 .1 .1 i);
-      column = k .0 .1 .0 i;
-      line = k .0 .1 .1 i;
-      flags = record { dle = k .1 .0 .0 .0 .0 i; scroll = k .1 .0 .0 .0 .1 i; wrap = k .1 .0 .0 .1 .0 i; lf = k .1 .0 .0 .1 .1 i; advance = k .1 .0 .1 i };
-      inverse = k .1 .1 .0 i;
-      mousetext = k .1 .1 .1 i;
-    })
+    (decides-both (decides-both (decides-zero-rect _) (decides-both (decides-eq _ _) (decides-eq _ _)))
+    (decides-both (decides-no-flags _) (decides-both (decides-off _) (decides-off _))))
+    (λ k i. withModes (withFlags (cursorAt (withViewport v (k .0 .0 i)) (k .0 .1 .0 i) (k .0 .1 .1 i)) (k .1 .0 i)) (k .1 .1 .0 i) (k .1 .1 .1 i))
     (λ e. (
-      (
-        ((ap (λ (x : View). x .viewport .left) e, ap (λ (x : View). x .viewport .top) e), (ap (λ (x : View). x .viewport .right) e, ap (λ (x : View). x .viewport .bottom) e)),
-        (ap (λ (x : View). x .column) e, ap (λ (x : View). x .line) e),
-      ),
-      (
-        (
-          ((ap (λ (x : View). x .flags .dle) e, ap (λ (x : View). x .flags .scroll) e), (ap (λ (x : View). x .flags .wrap) e, ap (λ (x : View). x .flags .lf) e)),
-          ap (λ (x : View). x .flags .advance) e,
-        ),
-        (ap (λ (x : View). x .inverse) e, ap (λ (x : View). x .mousetext) e),
-      ),
+      (ap (λ (x : View). x .viewport) e, (ap (λ (x : View). x .column) e, ap (λ (x : View). x .line) e)),
+      (ap (λ (x : View). x .flags) e, (ap (λ (x : View). x .inverse) e, ap (λ (x : View). x .mousetext) e)),
     ))
 
 -- code 0, which stands for none, takes no parameters
@@ -104,9 +98,20 @@ decides-valid p =
     (λ k. record { home = k .0 .0; view = k .0 .1; saved = k .1 .0 .0; unsaved = k .1 .0 .1; wait = k .1 .1 })
     (λ h. ((h .home, h .view), ((h .saved, h .unsaved), h .wait)))
 
--- the default view of a legal home is valid, and so is the fresh port
-pub default-valid : (home : Rect) → Legal home → ValidView home (defaultView home)
-default-valid home l = record { legal = l; within = omega arith; from-left = omega arith; to-right = omega arith; from-top = omega arith; to-bottom = omega arith }
+-- ---- what keeps a port valid: another part of its state that is valid by itself
+module _ (p : Port) (h : Valid p) where
+  pub view-valid : (v : View) → ValidView (p .home) v → Valid (withView p v)
+  view-valid v k = record { home = h .home; view = k; saved = h .saved; unsaved = h .unsaved; wait = h .wait }
+
+  pub saved-valid : (v : View) → ValidView (p .home) v → Valid (withSaved p true v)
+  saved-valid v k = record { home = h .home; view = h .view; saved = λ _. k; unsaved = λ e. absurd (not-both refl e); wait = h .wait }
+
+  pub wait-valid : (code : ℕ) (gathered : List ℕ) (count : ℕ) → ValidWait code gathered count → Valid (withWait p code gathered count)
+  wait-valid code gathered count k = record { home = h .home; view = h .view; saved = h .saved; unsaved = h .unsaved; wait = k }
+
+-- ---- the default view of a legal home is valid, and so is the fresh port
+pub default-valid : (p : Port) → Legal (p .home) → ValidView (p .home) (defaultView p)
+default-valid p l = record { legal = l; within = omega arith; from-left = omega arith; to-right = omega arith; from-top = omega arith; to-bottom = omega arith }
 
 pub none-waits : ValidWait 0 noParameters 0
 unfolding parameters unusedZero usedOrZero
@@ -115,12 +120,42 @@ none-waits = record { known = inl refl; fewer = λ h. h; none = λ _. refl; unus
 pub fresh-valid : (home : Rect) → Legal home → Valid (freshPort home)
 fresh-valid home l = record {
   home = l;
-  view = default-valid home l;
+  view = default-valid (freshPort home) l;
   saved = λ e. absurd (not-both e refl);
   unsaved = λ _. refl;
   wait = none-waits;
 }
 
+-- ---- the port of a free slot
+pub decides-zero-port : (p : Port) → Decides (isZeroPort p) (ZeroPort p)
+unfolding isZeroPort
+decides-zero-port p =
+    decides-as
+    (decides-both (decides-both (decides-zero-rect (p .home)) (decides-both (decides-zero-view (p .view)) (decides-zero-view (p .saved))))
+    (decides-both (decides-off (p .hassaved)) (decides-both (decides-eq _ _) (decides-both (decides-unused (p .gathered) 0) (decides-eq _ _)))))
+    (λ k. record {
+      home = k .0 .0;
+      view = k .0 .1 .0;
+      saved = k .0 .1 .1;
+      unsaved = k .1 .0;
+      waiting = k .1 .1 .0;
+      gathered = λ i h. k .1 .1 .1 .0 i h (omega arith);
+      count = k .1 .1 .1 .1;
+    })
+    (λ z. ((z .home, (z .view, z .saved)), (z .unsaved, (z .waiting, (λ i h _. z .gathered i h, z .count)))))
+
+pub zero-port-is-zero : ZeroPort zeroPort
+zero-port-is-zero = record {
+  home = refl;
+  view = refl;
+  saved = refl;
+  unsaved = refl;
+  waiting = refl;
+  gathered = λ i h. none-waits .unused i h (omega arith);
+  count = refl;
+}
+
+-- ---- parameters
 -- how many parameters a code takes, by its number
 pub takes : {n : ℕ} (code k : ℕ) → code ≡ k → n ≡ parameters k → n ≡ parameters code
 takes code k e h = rw e h

@@ -17,7 +17,8 @@ use Rattle.port.specs.declared.Flags.{Flags}
 use Rattle.port.specs.declared.View.{View}
 use Rattle.rectangle.specs.Rectangles.{Legal}
 use Rattle.port.specs.Valid.{ValidView}
-use Rattle.port.specs.Effect.{Effect, becomes, draws, andThen, cursorAt, withFlags, withModes}
+use Rattle.port.specs.State.{cursorAt, withFlags, withModes}
+use Rattle.port.specs.Effect.{Effect, becomes, draws, andThen}
 use Rattle.port.specs.Codes.{moveCursorRight, modeOf, storeCell, advanced, printByte, print, nearestInside, nearestRect, resize, setPortSize, inOffsetRange, clearFromLineStart, clearToLineEnd, clearLine, clearLinesAbove, clearFromPortStart, clearLinesBelow, clearToPortEnd, clearPortAndHome, horizontalScroll, setVertical, setHorizontal, gotoXY, backspace, lineFeed, feedIfLF, carriageReturn, homeCursor, spaces, dleSpaceExpansion, moveCursorUp}
 use Rattle.port.specs.Keeps.{KeepsView}
 

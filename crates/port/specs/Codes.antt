@@ -11,7 +11,8 @@ use Rattle.charset.specs.declared.Mode.the-variants.{Normal, Inverse, MouseText
 use Rattle.charset.specs.Stored.{storedByte}
 use Rattle.port.specs.declared.View.{View}
 use Rattle.rectangle.specs.Rectangles.{rectOf}
-use Rattle.port.specs.Effect.{Effect, becomes, draws, andThen, cursorAt, homed, withFlags, withModes, withViewport, eraseEdit, moveEdit, lineSpan, viewLines}
+use Rattle.port.specs.State.{cursorAt, withFlags, withModes, withViewport}
+use Rattle.port.specs.Effect.{Effect, becomes, draws, andThen, homed, eraseEdit, moveEdit, lineSpan, viewLines}
 
 -- $1C: 'right one. At the right edge with wrap: left edge of the next line; on the bottom line, if scroll, the port scrolls up and the cursor goes to the left edge of that line; otherwise it stays'
 unfoldable pub moveCursorRight : View → Effect

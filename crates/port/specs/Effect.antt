@@ -1,14 +1,13 @@
 -- What a code does to a view, and the edits that it makes on the screen. Assumes nothing.
 use Prim.Native.Nat.{ℕ}
-use mathlib.Core.Bool.{Bool}
 use mathlib.Core.List.{List, [], _++_}
 use Rattle.rectangle.specs.declared.Rect.{Rect}
 use Rattle.rectangle.specs.declared.Edit.{Edit}
 use Rattle.rectangle.specs.declared.Motion.{Motion}
 use Rattle.rectangle.specs.declared.Motion.the-variants.{Clear}
-use Rattle.port.specs.declared.Flags.{Flags}
 use Rattle.port.specs.declared.View.{View}
 use Rattle.rectangle.specs.Rectangles.{rectOf}
+use Rattle.port.specs.State.{cursorAt}
 
 pub record Effect : Type 0 where
   pub view : View
@@ -28,26 +27,9 @@ andThen e f =
     let next : Effect = f (e .view) in
     record { view = next .view; edits = e .edits ++ next .edits }
 
--- the view with its cursor elsewhere
-abbrev pub cursorAt : View → ℕ → ℕ → View
-cursorAt v column line =
-    record { viewport = v .viewport; column = column; line = line; flags = v .flags; inverse = v .inverse; mousetext = v .mousetext }
-
--- 'top left' of the viewport
+-- the cursor at the 'top left' of the viewport
 abbrev pub homed : View → View
 homed v = cursorAt v (v .viewport .left) (v .viewport .top)
-
-abbrev pub withFlags : View → Flags → View
-withFlags v flags =
-    record { viewport = v .viewport; column = v .column; line = v .line; flags = flags; inverse = v .inverse; mousetext = v .mousetext }
-
-abbrev pub withModes : View → Bool → Bool → View
-withModes v inverse mousetext =
-    record { viewport = v .viewport; column = v .column; line = v .line; flags = v .flags; inverse = inverse; mousetext = mousetext }
-
--- another viewport, 'and the cursor goes to its top left'
-abbrev pub withViewport : View → Rect → View
-withViewport v r = record { viewport = r; column = r .left; line = r .top; flags = v .flags; inverse = v .inverse; mousetext = v .mousetext }
 
 -- 'a blank is $A0': the byte that erasing stores, and that vacated cells get
 abbrev pub fillByte : View → ℕ

@@ -5,9 +5,8 @@ use mathlib.Core.List.{List, []}
 use lib.Dec.{ltb, eqb}
 use lib.ListN.{getD, set}
 use Rattle.rectangle.specs.declared.Edit.{Edit}
-use Rattle.port.specs.declared.View.{View}
 use Rattle.port.specs.declared.Port.{Port}
-use Rattle.port.specs.State.{defaultView, noParameters}
+use Rattle.port.specs.State.{noParameters, withView, withSaved, withWait, defaultView}
 use Rattle.port.specs.Valid.{parameters}
 use Rattle.port.specs.Effect.{Effect, becomes}
 use Rattle.port.specs.Codes.{print, setPortSize, clearFromLineStart, clearToLineEnd, clearLine, clearFromPortStart, clearToPortEnd, clearPortAndHome, horizontalScroll, setVertical, setHorizontal, gotoXY, backspace, lineFeed, carriageReturn, setNormal, setInverse, enableMouseText, disableMouseText, homeCursor, dleSpaceExpansion, setCursorMovement, scrollDown, scrollUp, moveCursorRight, moveCursorUp}
@@ -17,10 +16,6 @@ pub record Outcome : Type 0 where
   pub port : Port
   pub edits : List Edit
   pub bells : ℕ
-
-abbrev pub withView : Port → View → Port
-withView p v =
-    record { home = p .home; view = v; hassaved = p .hassaved; saved = p .saved; waiting = p .waiting; gathered = p .gathered; count = p .count }
 
 -- a port and nothing else
 abbrev pub becomesPort : Port → Outcome
@@ -40,30 +35,19 @@ ringBell p = record { port = p; edits = []; bells = 1 }
 
 -- $01: 'save viewport, cursor, flags, inverse, MouseText over any earlier save; then default state'
 abbrev pub pushAndReset : Port → Port
-pushAndReset p =
-    record { home = p .home; view = defaultView (p .home); hassaved = true; saved = p .view; waiting = p .waiting; gathered = p .gathered; count = p .count }
+pushAndReset p = withView (withSaved p true (p .view)) (defaultView p)
 
 -- $04: 'take the saved port, which stays saved; if none, default state'
 unfoldable pub pop : Port → Port
-pop p = withView p (cond (p .hassaved) (p .saved) (defaultView (p .home)))
+pop p = withView p (cond (p .hassaved) (p .saved) (defaultView p))
 
 -- 'the command waits': it is the waiting code, or none is (0), and nothing is gathered
 abbrev pub waitFor : Port → ℕ → Port
-waitFor p code =
-    record { home = p .home; view = p .view; hassaved = p .hassaved; saved = p .saved; waiting = code; gathered = noParameters; count = 0 }
+waitFor p code = withWait p code noParameters 0
 
 -- one parameter more, 'those gathered so far'
 abbrev pub gatherOne : Port → ℕ → Port
-gatherOne p b =
-    record {
-      home = p .home;
-      view = p .view;
-      hassaved = p .hassaved;
-      saved = p .saved;
-      waiting = p .waiting;
-      gathered = set (p .gathered) (p .count) b;
-      count = p .count + 1;
-    }
+gatherOne p b = withWait p (p .waiting) (set (p .gathered) (p .count) b) (p .count + 1)
 
 -- a control code, each by its own arm; the last is $1F
 unfoldable pub control : Port → ℕ → Outcome

@@ -7,7 +7,7 @@ use mathlib.Core.List.{List}
 use lib.Dec.{ltb, leb, eqb}
 use lib.ListN.{getD}
 use Rattle.rectangle.specs.declared.Rect.{Rect}
-use Rattle.rectangle.specs.Rectangles.{Within, Legal, isZeroRect, legal, within}
+use Rattle.rectangle.specs.Rectangles.{rectOf, Within, Legal, isZeroRect, legal, within}
 use Rattle.port.specs.declared.Flags.{Flags}
 use Rattle.port.specs.declared.View.{View}
 use Rattle.port.specs.declared.Port.{Port}
@@ -90,3 +90,18 @@ pub record Valid (p : Port) : Type 0 where
   pub saved : p .hassaved ≡ true → ValidView (p .home) (p .saved)
   pub unsaved : p .hassaved ≡ false → p .saved ≡ zeroView
   pub wait : ValidWait (p .waiting) (p .gathered) (p .count)
+
+-- of a free seat's port: 'every field of a free seat holds 0 or false'
+unfoldable pub isZeroPort : Port → Bool
+isZeroPort p =
+    (isZeroRect (p .home) && (isZeroView (p .view) && isZeroView (p .saved)))
+    && (not (p .hassaved) && (eqb (p .waiting) 0 && (unusedZero (p .gathered) 0 && eqb (p .count) 0)))
+
+pub record ZeroPort (p : Port) : Type 0 where
+  pub home : p .home ≡ rectOf 0 0 0 0
+  pub view : p .view ≡ zeroView
+  pub saved : p .saved ≡ zeroView
+  pub unsaved : p .hassaved ≡ false
+  pub waiting : p .waiting ≡ 0
+  pub gathered : (i : ℕ) → i < 4 → getD (p .gathered) i 0 ≡ 0
+  pub count : p .count ≡ 0

@@ -1,43 +1,28 @@
-// The default, the zero and the fresh state.
+// The zero state, a setter for each part, the default and the fresh state. Nothing else stores to a field of a port or a view.
 use super::Flags;
 use super::Port;
 use super::View;
 use rectangle::Rect;
 ghost use mathlib.Core.Path.{_≡_};
-ghost use Rattle.port.specs.State.{defaultView, zeroView, newPort, zeroPort, freshPort};
+ghost use Rattle.port.specs.State as rules;
 
-// The viewport is home, the cursor top left, all flags on, normal text.
-pub fn default_view(home: Rect) -> View
-    ensures { λ r. ⌜ r ≡ defaultView home ⌝ }
+// All five flags on or off.
+fn all_flags(on: bool) -> Flags
+    ensures { λ r. ⌜ r ≡ rules.allFlags on ⌝ }
 {
-    let flags = Flags {
-        dle: true,
-        scroll: true,
-        wrap: true,
-        lf: true,
-        advance: true,
-    };
-    View {
-        viewport: home,
-        column: home.left,
-        line: home.top,
-        flags,
-        inverse: false,
-        mousetext: false,
+    Flags {
+        dle: on,
+        scroll: on,
+        wrap: on,
+        lf: on,
+        advance: on,
     }
 }
 
 // Every field 0 or false.
-pub fn zero_view() -> View
-    ensures { λ r. ⌜ r ≡ zeroView ⌝ }
+fn zero_view() -> View
+    ensures { λ r. ⌜ r ≡ rules.zeroView ⌝ }
 {
-    let flags = Flags {
-        dle: false,
-        scroll: false,
-        wrap: false,
-        lf: false,
-        advance: false,
-    };
     let viewport = Rect {
         left: 0,
         top: 0,
@@ -48,38 +33,116 @@ pub fn zero_view() -> View
         viewport,
         column: 0,
         line: 0,
-        flags,
+        flags: all_flags(false),
         inverse: false,
         mousetext: false,
     }
 }
 
-// Nothing saved and nothing waiting.
-fn new_port(home: Rect, view: View) -> Port
-    ensures { λ r. ⌜ r ≡ newPort home view ⌝ }
+// Every field 0 or false.
+pub fn zero_port() -> Port
+    ensures { λ r. ⌜ r ≡ rules.zeroPort ⌝ }
 {
+    let view = zero_view();
+    let home = view.viewport;
     Port {
         home,
         view,
         hassaved: false,
-        saved: zero_view(),
+        saved: view,
         waiting: 0,
         gathered: [0; 4],
         count: 0,
     }
 }
 
-// Every field 0 or false.
-pub fn zero_port() -> Port
-    ensures { λ r. ⌜ r ≡ zeroPort ⌝ }
+// The view with another viewport, and the cursor at its top left.
+pub fn with_viewport(v: View, rect: Rect) -> View
+    ensures { λ r. ⌜ r ≡ rules.withViewport v rect ⌝ }
 {
-    let view = zero_view();
-    new_port(view.viewport, view)
+    let mut next = v;
+    next.viewport = rect;
+    next.column = rect.left;
+    next.line = rect.top;
+    next
+}
+
+// The view with its cursor elsewhere.
+pub fn cursor_at(v: View, column: u8, line: u8) -> View
+    ensures { λ r. ⌜ r ≡ rules.cursorAt v column line ⌝ }
+{
+    let mut next = v;
+    next.column = column;
+    next.line = line;
+    next
+}
+
+pub fn with_flags(v: View, flags: Flags) -> View
+    ensures { λ r. ⌜ r ≡ rules.withFlags v flags ⌝ }
+{
+    let mut next = v;
+    next.flags = flags;
+    next
+}
+
+pub fn with_modes(v: View, inverse: bool, mousetext: bool) -> View
+    ensures { λ r. ⌜ r ≡ rules.withModes v inverse mousetext ⌝ }
+{
+    let mut next = v;
+    next.inverse = inverse;
+    next.mousetext = mousetext;
+    next
+}
+
+fn with_home(p: Port, home: Rect) -> Port
+    ensures { λ r. ⌜ r ≡ rules.withHome p home ⌝ }
+{
+    let mut next = p;
+    next.home = home;
+    next
+}
+
+pub fn with_view(p: Port, view: View) -> Port
+    ensures { λ r. ⌜ r ≡ rules.withView p view ⌝ }
+{
+    let mut next = p;
+    next.view = view;
+    next
+}
+
+// Whether there is a saved view, and that view.
+pub fn with_saved(p: Port, hassaved: bool, saved: View) -> Port
+    ensures { λ r. ⌜ r ≡ rules.withSaved p hassaved saved ⌝ }
+{
+    let mut next = p;
+    next.hassaved = hassaved;
+    next.saved = saved;
+    next
+}
+
+// The waiting code, and the parameters gathered so far.
+pub fn with_wait(p: Port, waiting: u8, gathered: [u8; 4], count: u8) -> Port
+    ensures { λ r. ⌜ r ≡ rules.withWait p waiting gathered count ⌝ }
+{
+    let mut next = p;
+    next.waiting = waiting;
+    next.gathered = gathered;
+    next.count = count;
+    next
+}
+
+// The viewport is home, the cursor top left, all flags on, normal text, MouseText off.
+pub fn default_view(p: Port) -> View
+    ensures { λ r. ⌜ r ≡ rules.defaultView p ⌝ }
+{
+    let placed = with_viewport(zero_view(), p.home);
+    with_modes(with_flags(placed, all_flags(true)), false, false)
 }
 
 // The default state, with nothing saved and nothing waiting.
 pub fn fresh_port(home: Rect) -> Port
-    ensures { λ r. ⌜ r ≡ freshPort home ⌝ }
+    ensures { λ r. ⌜ r ≡ rules.freshPort home ⌝ }
 {
-    new_port(home, default_view(home))
+    let p = with_home(zero_port(), home);
+    with_view(p, default_view(p))
 }

@@ -45,7 +45,7 @@ fn no_flags(f: Flags) -> bool
     ((!f.dle & !f.scroll) & (!f.wrap & !f.lf)) & !f.advance
 }
 
-pub fn is_zero_view(v: View) -> bool
+fn is_zero_view(v: View) -> bool
     ensures { λ b. ⌜ b ≡ rules.isZeroView v ⌝ }
 {
     (is_zero_rect(v.viewport) & ((v.column == 0) & (v.line == 0)))
@@ -69,7 +69,7 @@ fn used_or_zero(gathered: [u8; 4], count: u8, i: u8) -> bool
     (i < count) | (gathered[place] == 0)
 }
 
-pub fn unused_zero(gathered: [u8; 4], count: u8) -> bool
+fn unused_zero(gathered: [u8; 4], count: u8) -> bool
     ensures { λ b. ⌜ b ≡ rules.unusedZero gathered count ⌝ }
 {
     (used_or_zero(gathered, count, 0) & used_or_zero(gathered, count, 1))
@@ -97,4 +97,13 @@ pub fn valid_port(p: Port) -> bool
     let gathered = p.gathered;
     (legal(p.home) & valid_view(p.home, p.view))
         & (valid_saved(p.home, p.hassaved, p.saved) & valid_wait(p.waiting, gathered, p.count))
+}
+
+// Every field 0 or false.
+pub fn is_zero_port(p: Port) -> bool
+    ensures { λ b. ⌜ b ≡ rules.isZeroPort p ⌝ }
+{
+    let gathered = p.gathered;
+    (is_zero_rect(p.home) & (is_zero_view(p.view) & is_zero_view(p.saved)))
+        & (!p.hassaved & ((p.waiting == 0) & (unused_zero(gathered, 0) & (p.count == 0))))
 }

@@ -1,73 +1,37 @@
--- The test for validity is true exactly when paper 01's clauses hold. Assumes nothing.
+-- The test for validity is true exactly when paper 01's clauses hold, and a free slot is valid. Assumes nothing.
 use Prim.Native.Nat.{ℕ, zero, suc, _<_}
 use native.Mathlib.Omega.{arith}
-use mathlib.Core.Path.{_≡_, refl, sym, ap}
-use mathlib.Core.Bool.{Bool, false, not, _&&_, _||_}
-use mathlib.Core.Logic.{_⊎_, inl, inr, ⊎-elim}
-use mathlib.Core.List.{List}
+use mathlib.Core.Path.{_≡_, refl, sym}
+use mathlib.Core.Bool.{Bool, _&&_}
+use mathlib.Core.Logic.{inl, inr, ⊎-elim}
 use lib.Dec.{eqb}
-use lib.ListN.{length, getD}
-use borrow.Author.Tests.{eqb-true, eqb-false, eq-eqb, ne-eqb, not-true}
-use Rattle.rectangle.proofs.Rectangles.{decides-zero-rect}
-use Rattle.rectangle.specs.declared.Rect.{Rect}
-use Rattle.rectangle.specs.Rectangles.{Apart, rectOf, wholeScreen, legal, within, isZeroRect}
-use Rattle.laws.proofs.Tests.{tested, not-both, below?, Decides, decides-eq, decides-both, decides-if, decides-as, decides-four, decides-else, decides-either, decides-not}
-use Rattle.port.specs.declared.View.{View}
-use Rattle.port.specs.declared.Port.{Port}
-use Rattle.port.specs.State.{zeroView, noParameters, defaultView}
-use Rattle.port.specs.Valid.{cursorInside, validView, noFlags, isZeroView, validSaved, usedOrZero, unusedZero, countFits, validWait, ValidWait, valid, Valid}
-use Rattle.port.proofs.Validity.{decides-valid, decides-wait, no-parameters}
+use lib.ListN.{length}
+use borrow.Author.Tests.{eqb-true, eqb-false, eq-eqb, ne-eqb}
+use Rattle.rectangle.specs.Rectangles.{Apart}
+use Rattle.laws.proofs.Tests.{below?, Decides, decides-eq, decides-both, decides-if, decides-as, decides-four, decides-else, decides-either, decides-not}
+use Rattle.port.specs.Valid.{Valid, ZeroPort}
+use Rattle.port.proofs.Validity.{decides-valid, decides-zero-port, zero-port-is-zero}
 use Rattle.slots.specs.declared.Slot.{Slot}
 use Rattle.slots.specs.declared.Multiplexer.{Multiplexer}
-use Rattle.slots.specs.State.{slotAt, pane, Open}
-use Rattle.slots.specs.Valid.{isZeroPort, ZeroPort, validSlot, compatible, validSlots, validMultiplexer, ValidMultiplexer}
+use Rattle.slots.specs.State.{freeSlot, slotAt, pane, Open}
+use Rattle.slots.specs.Valid.{validSlot, compatible, validSlots, validMultiplexer, ValidMultiplexer}
 use Rattle.rectangle.proofs.Overlaps.{Overlap, decides-overlap, overlap-apart, apart-overlap}
-
--- ---- a free slot
--- a port that has saved nothing is valid only where its saved view is zero
-savedNone : View → Port
-savedNone v = record { home = wholeScreen; view = defaultView wholeScreen; hassaved = false; saved = v; waiting = 0; gathered = noParameters; count = 0 }
-
-decides-zero-view : (v : View) → Decides (isZeroView v) (v ≡ zeroView)
-unfolding savedNone valid legal validView within cursorInside validSaved validWait countFits unusedZero usedOrZero
-decides-zero-view v = record {
-  holds = λ e. decides-valid (savedNone v) .holds (rw e) .unsaved refl;
-  passes = λ e. rw e (unfold isZeroView isZeroRect noFlags zeroView in refl);
-}
-
-pub decides-zero-port : (p : Port) → Decides (isZeroPort p) (ZeroPort p)
-unfolding isZeroPort validWait countFits
-decides-zero-port p =
-    decides-as
-    (decides-both (decides-both (decides-zero-rect (p .home)) (decides-both (decides-zero-view (p .view)) (decides-zero-view (p .saved))))
-    (decides-both (decides-off (p .hassaved)) (decides-both (decides-eq _ _) (decides-both (decides-wait 0 (p .gathered) 0) (decides-eq _ _)))))
-    (λ k. record {
-      home = k .0 .0;
-      view = k .0 .1 .0;
-      saved = k .0 .1 .1;
-      unsaved = k .1 .0;
-      waiting = k .1 .1 .0;
-      gathered = λ i h. k .1 .1 .1 .0 .unused i h (omega arith);
-      count = k .1 .1 .1 .1;
-    })
-    (λ z. ((z .home, (z .view, z .saved)), (z .unsaved, (z .waiting, (none-waits (z .gathered), z .count)))))
-  where
-    decides-off : (t : Bool) → Decides (not t) (t ≡ false)
-    decides-off t = record { holds = not-true t; passes = λ e. rw e }
-
-    none-waits : {g : List ℕ} → ((i : ℕ) → i < 4 → getD g i 0 ≡ 0) → ValidWait 0 g 0
-    none-waits zeros = record { known = inl refl; fewer = λ h. absurd (no-parameters 0 refl h); none = λ _. refl; unused = λ i h _. zeros i h }
 
 -- ---- one slot, and two
 abbrev pub SlotFacts : Slot → Type 0
 SlotFacts x = (x .client ≡ 0 → ZeroPort (x .port)) × ((x .client ≡ 0 → ⊥) → Valid (x .port))
 
-decides-slot : (x : Slot) → Decides (validSlot x) (SlotFacts x)
+pub decides-slot : (x : Slot) → Decides (validSlot x) (SlotFacts x)
 unfolding validSlot
 decides-slot x =
     decides-as (decides-if (eqb (x .client) 0) (decides-zero-port (x .port)) (decides-valid (x .port)))
     (λ k. (λ e. k .0 (eq-eqb _ _ e), λ n. k .1 (ne-eqb _ _ n)))
     (λ k. (λ e. k .0 (eqb-true _ _ e), λ e. k .1 (eqb-false _ _ e)))
+
+-- a free slot is valid
+pub free-valid : SlotFacts freeSlot
+unfolding freeSlot
+free-valid = (λ _. zero-port-is-zero, λ n. absurd (n refl))
 
 abbrev PairFacts : Slot → Slot → Type 0
 PairFacts x y = (x .client ≡ 0 → ⊥) → (y .client ≡ 0 → ⊥) → (x .client ≡ y .client → ⊥) × (Overlap (x .port .home) (y .port .home) → ⊥)

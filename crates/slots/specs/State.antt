@@ -1,14 +1,13 @@
 -- Paper 01, 'Screen and port': the fresh multiplexer, and its slots. A multiplexer is the paper's wall, a slot its seat, a client its bench number. Assumes nothing.
 use Prim.Native.Nat.{ℕ, _<_}
 use mathlib.Core.Path.{_≡_}
-use mathlib.Core.Bool.{Bool, false, cond, not, _&&_}
+use mathlib.Core.Bool.{Bool, cond, not, _&&_}
 use mathlib.Core.List.{[], _∷_}
 use lib.Dec.{ltb, eqb}
 use lib.ListN.{getD, set}
 use Rattle.rectangle.specs.declared.Rect.{Rect}
 use Rattle.port.specs.declared.Port.{Port}
-use Rattle.rectangle.specs.Rectangles.{rectOf}
-use Rattle.port.specs.State.{zeros, zeroPort, freshPort}
+use Rattle.port.specs.State.{zeroPort, freshPort, noPort}
 use Rattle.slots.specs.declared.Slot.{Slot}
 use Rattle.slots.specs.declared.Multiplexer.{Multiplexer}
 
@@ -21,7 +20,7 @@ freeSlot = newSlot 0 zeroPort
 
 -- what code reads past the end of an array of slots; no multiplexer shows it
 abbrev pub noSlot : Slot
-noSlot = newSlot 0 (record { home = rectOf 0 0 0 0; view = zeros; hassaved = false; saved = zeros; waiting = 0; gathered = []; count = 0 })
+noSlot = newSlot 0 noPort
 
 -- 'a fresh wall has four free seats'
 abbrev pub freshMultiplexer : Multiplexer

@@ -1,31 +1,14 @@
 -- Paper 01, 'Screen and port': when a multiplexer is sound, here called valid: as a test, and beside it as propositions. Assumes nothing.
-use Prim.Native.Nat.{ℕ, _<_}
+use Prim.Native.Nat.{ℕ}
 use mathlib.Core.Path.{_≡_}
-use mathlib.Core.Bool.{Bool, false, cond, not, _&&_, _||_}
+use mathlib.Core.Bool.{Bool, cond, not, _&&_, _||_}
 use lib.Dec.{eqb}
-use lib.ListN.{length, getD}
-use Rattle.rectangle.specs.Rectangles.{Apart, rectOf, isZeroRect, sharesCell}
-use Rattle.port.specs.declared.Port.{Port}
-use Rattle.port.specs.State.{zeroView}
-use Rattle.port.specs.Valid.{valid, Valid, isZeroView, unusedZero}
+use lib.ListN.{length}
+use Rattle.rectangle.specs.Rectangles.{Apart, sharesCell}
+use Rattle.port.specs.Valid.{valid, Valid, isZeroPort, ZeroPort}
 use Rattle.slots.specs.declared.Slot.{Slot}
 use Rattle.slots.specs.declared.Multiplexer.{Multiplexer}
 use Rattle.slots.specs.State.{slotAt, pane, Open, Free}
-
--- 'every field of a free seat holds 0 or false'
-unfoldable pub isZeroPort : Port → Bool
-isZeroPort p =
-    (isZeroRect (p .home) && (isZeroView (p .view) && isZeroView (p .saved)))
-    && (not (p .hassaved) && (eqb (p .waiting) 0 && (unusedZero (p .gathered) 0 && eqb (p .count) 0)))
-
-pub record ZeroPort (p : Port) : Type 0 where
-  pub home : p .home ≡ rectOf 0 0 0 0
-  pub view : p .view ≡ zeroView
-  pub saved : p .saved ≡ zeroView
-  pub unsaved : p .hassaved ≡ false
-  pub waiting : p .waiting ≡ 0
-  pub gathered : (i : ℕ) → i < 4 → getD (p .gathered) i 0 ≡ 0
-  pub count : p .count ≡ 0
 
 -- 'its open seats are sound .. and every field of a free seat holds 0 or false'
 unfoldable pub validSlot : Slot → Bool

@@ -1,23 +1,11 @@
 // When a multiplexer is valid. The tests are joined without branches, as the definitions are.
 use super::Multiplexer;
 use super::Slot;
-use port::Port;
-use port::valid::is_zero_view;
-use port::valid::unused_zero;
+use port::valid::is_zero_port;
 use port::valid::valid_port;
-use rectangle::is_zero_rect;
 use rectangle::shares_cell;
 ghost use mathlib.Core.Path.{_≡_};
 ghost use Rattle.slots.specs.Valid as rules;
-
-// Every field 0 or false.
-fn is_zero_port(p: Port) -> bool
-    ensures { λ b. ⌜ b ≡ rules.isZeroPort p ⌝ }
-{
-    let gathered = p.gathered;
-    (is_zero_rect(p.home) & (is_zero_view(p.view) & is_zero_view(p.saved)))
-        & (!p.hassaved & ((p.waiting == 0) & (unused_zero(gathered, 0) & (p.count == 0))))
-}
 
 fn valid_slot(x: Slot) -> bool
     ensures { λ b. ⌜ b ≡ rules.validSlot x ⌝ }

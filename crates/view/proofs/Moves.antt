@@ -6,7 +6,8 @@ use lib.Dec.{ltb}
 use borrow.Author.Tests.{ltb-true}
 use Rattle.laws.proofs.Tests.{and-right}
 use Rattle.port.specs.declared.View.{View}
-use Rattle.port.specs.Effect.{Effect, becomes, cursorAt}
+use Rattle.port.specs.State.{cursorAt}
+use Rattle.port.specs.Effect.{Effect, becomes}
 use Rattle.port.specs.Codes.{lineFeed, feedIfLF, carriageReturn}
 
 -- a wrap has a line to go to: the second of two joined tests, as a fact

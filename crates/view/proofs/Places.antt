@@ -10,7 +10,8 @@ use Rattle.rectangle.specs.declared.Motion.the-variants.{Left}
 use Rattle.rectangle.specs.Rectangles.{OnScreen, rectOf}
 use Rattle.laws.proofs.Tests.{by-test, and-left, and-right}
 use Rattle.port.specs.declared.View.{View}
-use Rattle.port.specs.Effect.{cursorAt, moveEdit}
+use Rattle.port.specs.State.{cursorAt}
+use Rattle.port.specs.Effect.{moveEdit}
 use Rattle.port.specs.Codes.{setVertical, setHorizontal, gotoXY, inOffsetRange, resize}
 
 -- $05: 256 is no byte, so the code takes from 255 and adds one

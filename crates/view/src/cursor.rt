@@ -1,10 +1,10 @@
 // Codes that move the cursor by one, and how printing moves it.
 use super::Moved;
-use super::cursor_at;
 use super::move_cells;
 use super::once;
 use super::still;
 use port::View;
+use port::state::cursor_at;
 use rectangle::Motion;
 ghost use mathlib.Core.Path.{_≡_};
 ghost use Rattle.port.specs.Codes.{moveCursorRight, backspace, lineFeed, moveCursorUp, carriageReturn, advanced};

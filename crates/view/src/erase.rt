@@ -2,10 +2,10 @@
 use super::Change;
 use super::Moved;
 use super::ViewPlan;
-use super::cursor_at;
 use super::fill_byte;
 use super::once;
 use port::View;
+use port::state::cursor_at;
 use rectangle::Edit;
 use rectangle::Motion;
 use rectangle::Rect;

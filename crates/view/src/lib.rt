@@ -7,12 +7,12 @@ pub mod place;
 use charset::Mode;
 use port::Flags;
 use port::View;
+use port::state::with_flags;
 use rectangle::Edit;
 use rectangle::Motion;
-use rectangle::Rect;
 ghost use mathlib.Core.Path.{_≡_};
-ghost use Prim.Native.Nat.{_≤_, min};
-ghost use Rattle.port.specs.Effect.{fillByte, cursorAt, withModes, moveEdit};
+ghost use Prim.Native.Nat.{min};
+ghost use Rattle.port.specs.Effect.{fillByte, moveEdit};
 ghost use Rattle.port.specs.Codes.{modeOf, setCursorMovement};
 ghost use Rattle.view.specs.Plan.{stillOf, onceOf};
 
@@ -53,16 +53,6 @@ pub fn once(view: View, edit: Edit) -> Moved
     }
 }
 
-// The view with its cursor elsewhere.
-pub fn cursor_at(v: View, column: u8, line: u8) -> View
-    ensures { λ r. ⌜ r ≡ cursorAt v column line ⌝ }
-{
-    let mut moved = v;
-    moved.column = column;
-    moved.line = line;
-    moved
-}
-
 // The byte that erased and vacated cells get: a blank.
 pub fn fill_byte(v: View) -> u8
     ensures { λ r. ⌜ r ≡ fillByte v ⌝ }
@@ -98,16 +88,6 @@ pub fn mode_of(v: View) -> Mode
     Mode::Normal
 }
 
-// $0E, $0F, $18, $1B.
-pub fn with_modes(v: View, inverse: bool, mousetext: bool) -> View
-    ensures { λ r. ⌜ r ≡ withModes v inverse mousetext ⌝ }
-{
-    let mut set = v;
-    set.inverse = inverse;
-    set.mousetext = mousetext;
-    set
-}
-
 // $15: bit 4 is DLE, then scroll, wrap and LF, and bit 0 is advance. The top three bits are dropped.
 pub fn set_cursor_movement(v: View, b: u8) -> View
     ensures { λ r. ⌜ r ≡ setCursorMovement v b ⌝ }
@@ -119,7 +99,5 @@ pub fn set_cursor_movement(v: View, b: u8) -> View
         lf: (b >> 1) & 1 == 1,
         advance: b & 1 == 1,
     };
-    let mut set = v;
-    set.flags = flags;
-    set
+    with_flags(v, flags)
 }

@@ -1,11 +1,12 @@
 // Codes whose parameters place the cursor, the viewport or the viewport's cells.
 use super::Moved;
-use super::cursor_at;
 use super::least;
 use super::move_cells;
 use super::once;
 use super::still;
 use port::View;
+use port::state::cursor_at;
+use port::state::with_viewport;
 use rectangle::Motion;
 use rectangle::Rect;
 ghost use mathlib.Core.Path.{_≡_};
@@ -80,13 +81,10 @@ fn resize(v: View, rect: Rect) -> View
     ensures { λ r. ⌜ r ≡ resize v rect ⌝ }
 {
     if (rect.left < rect.right) & (rect.top < rect.bottom) {
-        let mut sized = v;
-        sized.viewport = rect;
-        sized.column = rect.left;
-        sized.line = rect.top;
-        return sized;
+        with_viewport(v, rect)
+    } else {
+        v
     }
-    v
 }
 
 // $02: left, top, right and bottom, each + 32.

@@ -1,8 +1,12 @@
--- `view::place::resize` meets its contract: it makes the definition's test, and sets what the definition sets. Assumes nothing.
+-- `view::place::resize` meets its contract: it makes the definition's test, and sets the viewport as the definition does. Assumes nothing.
+use borrow.Author.Needs.{needs}
 use Rattle.port.specs.Codes.{resize}
 use Rattle.laws.proofs.Choices.{choices}
 use Rattle.view.proofs.place.resize.Statement.{statement}
 use Rattle.view.proofs.place.resize.Tie as tie
+
+with-viewport-requires : tie.Need-with-viewport-requires
+with-viewport-requires c κs = search needs
 
 returns : tie.Need-returns
 unfolding resize
@@ -13,4 +17,4 @@ unfolding resize
 returns-2 c = search choices
 
 pub resize-spec : {M : Type 1} → statement M
-resize-spec = tie.close (tie.spec returns returns-2)
+resize-spec = tie.close (tie.spec with-viewport-requires returns returns-2)

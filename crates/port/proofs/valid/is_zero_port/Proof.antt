@@ -1,8 +1,8 @@
--- `slots::valid::is_zero_port` meets its contract. Assumes nothing.
+-- `port::valid::is_zero_port` meets its contract: the definition's tests, by what each call returns. Assumes nothing.
 use borrow.Author.Needs.{needs}
-use Rattle.slots.specs.Valid.{isZeroPort}
-use Rattle.slots.proofs.valid.is_zero_port.Statement.{statement}
-use Rattle.slots.proofs.valid.is_zero_port.Tie as tie
+use Rattle.port.specs.Valid.{isZeroPort}
+use Rattle.port.proofs.valid.is_zero_port.Statement.{statement}
+use Rattle.port.proofs.valid.is_zero_port.Tie as tie
 
 is-zero-rect-requires : tie.Need-is-zero-rect-requires
 is-zero-rect-requires c κs = search needs

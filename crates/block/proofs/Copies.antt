@@ -7,11 +7,11 @@ use native.Mathlib.Nat.{mul-comm}
 use native.Mathlib.Omega.{arith}
 use lib.ListN.{length, getD, set, drop, length-append, length-drop, List·getD-append}
 use lib.Seq.{ext-getD, getD-drop, getD-append-add}
+use Rattle.laws.proofs.Tests.{below?}
 use Rattle.rectangle.specs.declared.Rect.{Rect}
 use Rattle.rectangle.specs.Rectangles.{OnScreen, widthOf, heightOf}
 use Rattle.rectangle.specs.Cells.{Inside}
 use Rattle.screen.specs.Rewrite.{Rewritten, Copied}
-use Rattle.laws.proofs.Tests.{below?}
 use Rattle.screen.proofs.Rewrites.{none, ends, holds, wider, then-after, one-after}
 use Rattle.block.specs.Block.{blockLength, rowStart, blockOf, blockPlace, restored}
 use Rattle.block.proofs.Rows.{row-fits, row-inside, length-block, block-row, place-of-row}

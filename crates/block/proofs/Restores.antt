@@ -6,12 +6,12 @@ use mathlib.Core.List.{List}
 use native.Mathlib.Omega.{arith}
 use lib.ListN.{length, getD, List·getD-eq-default}
 use lib.Seq.{ext-getD}
+use Rattle.laws.specs.Tabulate.{length-tabulate, getD-tabulate}
+use Rattle.laws.proofs.Tests.{below?, by-test}
 use Rattle.rectangle.specs.declared.Rect.{Rect}
 use Rattle.rectangle.specs.Rectangles.{OnScreen, Within}
 use Rattle.rectangle.specs.Cells.{Inside, inside}
 use Rattle.rectangle.specs.Local.{Local}
-use Rattle.laws.specs.Tabulate.{length-tabulate, getD-tabulate}
-use Rattle.laws.proofs.Tests.{below?, by-test}
 use Rattle.rectangle.proofs.Edits.{inside?, decides-inside}
 use Rattle.rectangle.proofs.Local.{within-inside}
 use Rattle.block.specs.Block.{blockOf, blockPlace, restored}

@@ -9,11 +9,11 @@ use borrow.Author.Needs.{needs}
 use borrow.Author.Tests.{eq-eqb}
 use lib.ListN.{length, getD, length-append, length-take, length-drop, List·getD-append}
 use lib.Seq.{getD-take, getD-drop, getD-append-add, ext-getD}
+use Rattle.laws.proofs.Tests.{and-both}
 use Rattle.rectangle.specs.declared.Rect.{Rect}
 use Rattle.rectangle.specs.Cells.{columnOf, lineOf, Inside}
 use Rattle.rectangle.specs.Rectangles.{OnScreen, widthOf, heightOf}
 use Rattle.rectangle.specs.Local.{Agree}
-use Rattle.laws.proofs.Tests.{and-both}
 use Rattle.block.specs.Block.{blockLength, rowStart, rowCells, rowsFrom, blockOf, blockFits, blockPlace}
 
 -- a product of two counts of columns or lines is small

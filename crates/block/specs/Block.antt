@@ -4,10 +4,10 @@ use mathlib.Core.Bool.{Bool, cond, _&&_}
 use mathlib.Core.List.{List, [], _∷_, _++_}
 use lib.Dec.{eqb}
 use lib.ListN.{length, take, drop, getD}
+use Rattle.laws.specs.Tabulate.{tabulate}
 use Rattle.rectangle.specs.declared.Rect.{Rect}
 use Rattle.rectangle.specs.Cells.{columnOf, lineOf, inside}
 use Rattle.rectangle.specs.Rectangles.{widthOf, heightOf}
-use Rattle.laws.specs.Tabulate.{tabulate}
 
 -- '2 + width x height'
 unfoldable pub blockLength : Rect → ℕ

@@ -10,6 +10,7 @@ use rectangle::Rect;
 use rectangle::height;
 use reply::Status;
 use screen::is_screen;
+use screen::no_cells;
 ghost use mathlib.Core.Path.{_≡_};
 ghost use mathlib.Core.List.{[], _∷_};
 ghost use Rattle.reply.specs.Reply.{Replies};
@@ -151,13 +152,13 @@ pub fn row_view(p: Port, screen: &[u8], row: usize) -> &[u8]
 {
     let judged = judge(p, screen.len());
     match judged {
-        Judged::Refused(_) => &screen[0..0],
+        Judged::Refused(_) => no_cells(screen),
         Judged::Accepted => {
             let rect = p.view.viewport;
             if row < height(rect) as usize {
                 return row_cells(screen, rect, row);
             }
-            &screen[0..0]
+            no_cells(screen)
         }
     }
 }

@@ -8,15 +8,14 @@ use native.Mathlib.Omega.{arith}
 use lib.Dec.{eqb}
 use lib.ListN.{length, getD}
 use borrow.Author.Tests.{eqb-true}
+use Rattle.laws.specs.Tabulate.{length-tabulate, getD-tabulate}
+use Rattle.laws.proofs.Tests.{below?, and-left, and-right, Decides, decides-eq, decides-both, decides-as}
 use Rattle.rectangle.specs.declared.Rect.{Rect}
 use Rattle.rectangle.specs.declared.Edit.{Edit}
 use Rattle.rectangle.specs.Edit.{draw, drawCell}
-use Rattle.laws.specs.Tabulate.{length-tabulate, getD-tabulate}
-use Rattle.laws.proofs.Tests.{below?, and-left, and-right, Decides, decides-eq, decides-both, decides-as}
+use Rattle.rectangle.specs.Rectangles.{wholeScreen}
 use Rattle.rectangle.proofs.Local.{draw-cells}
 use Rattle.port.specs.declared.View.{View}
-use Rattle.port.specs.declared.Port.{Port}
-use Rattle.rectangle.specs.Rectangles.{wholeScreen}
 use Rattle.port.specs.Valid.{Valid}
 use Rattle.port.specs.Step.{Outcome}
 use Rattle.port.specs.Stream.{stream}

@@ -5,8 +5,8 @@ use mathlib.Core.Bool.{cond}
 use mathlib.Core.List.{List, [], _∷_}
 use lib.Dec.{eqb}
 use lib.ListN.{length, getD}
-use Rattle.rectangle.specs.declared.Rect.{Rect}
 use Rattle.laws.specs.Tabulate.{tabulate}
+use Rattle.rectangle.specs.declared.Rect.{Rect}
 use Rattle.reply.specs.declared.Status.the-variants.{Done}
 use Rattle.calls.specs.Calls.{PortReply}
 use Rattle.console.specs.Calls.{freshConsole, writeCall}

@@ -11,9 +11,9 @@ use lib.Dec.{leb, eqb}
 use borrow.Author.Tests.{eqb-true, eq-eqb, leb-true, leb-false}
 use lib.ListN.{length, drop, getD}
 use lib.Seq.{drop-cons}
+use Rattle.laws.proofs.Tests.{by-test, and-left, and-right}
 use Rattle.rectangle.specs.Rectangles.{OnScreen}
 use Rattle.rectangle.specs.Edit.{draw}
-use Rattle.laws.proofs.Tests.{by-test, and-left, and-right}
 use Rattle.rectangle.proofs.Local.{draw-append}
 use Rattle.charset.specs.declared.Mode.{Mode}
 use Rattle.charset.specs.Stored.{storedByte}

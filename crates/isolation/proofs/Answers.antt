@@ -21,7 +21,7 @@ use Rattle.slots.specs.Valid.{ValidMultiplexer}
 use Rattle.slots.proofs.Validity.{decides-multiplexer}
 use Rattle.slots.proofs.Slots.{decides-client, slot-client, slot-found, slot-open}
 use Rattle.multiplexer.specs.Located.{clientSlot, freeSlotFor, claimSlot}
-use Rattle.multiplexer.specs.Calls.{MultiplexerReply, onSlot, relayed, onClient, writeCall, returnCall, restoreCall, opened, openCall, closed, closeCall}
+use Rattle.multiplexer.specs.Calls.{MultiplexerReply, onSlot, onClient, writeCall, returnCall, restoreCall, opened, openCall, closed, closeCall}
 use Rattle.multiplexer.proofs.Claims.{decides-pane-shared}
 use Rattle.multiplexer.proofs.Replying.{slotStatus}
 use Rattle.isolation.specs.Laws.{viewport, Fits, Applies, Exactly, Statuses, ValidStatuses, GoesTo, SlotStatuses}

@@ -4,9 +4,9 @@ use mathlib.Core.Path.{_≡_, refl}
 use mathlib.Core.Bool.{true}
 use mathlib.Core.Logic.{⊎-elim}
 use mathlib.Core.List.{[]}
-use Rattle.slots.specs.declared.Multiplexer.{Multiplexer}
 use Rattle.reply.specs.declared.Status.the-variants.{Done, NotOpen}
 use Rattle.reply.specs.Reply.{refusal}
+use Rattle.slots.specs.declared.Multiplexer.{Multiplexer}
 use Rattle.slots.specs.State.{freeSlot, freshMultiplexer, slotAt, Open, Closed}
 use Rattle.slots.specs.Valid.{compatible, validSlots, validMultiplexer, ValidMultiplexer}
 use Rattle.slots.proofs.Validity.{decides-slot, free-valid, decides-multiplexer}

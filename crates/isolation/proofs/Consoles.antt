@@ -7,10 +7,10 @@ use mathlib.Core.List.{List, _++_}
 use mathlib.Core.Logic.{⊎-elim}
 use lib.Dec.{ltb}
 use lib.ListN.{length, getD, drop}
+use Rattle.laws.proofs.Tests.{tested, by-test}
 use Rattle.rectangle.specs.declared.Rect.{Rect}
 use Rattle.rectangle.specs.Cells.{Inside}
 use Rattle.rectangle.specs.Local.{Agree, Local}
-use Rattle.laws.proofs.Tests.{tested, by-test}
 use Rattle.rectangle.proofs.Local.{within-inside}
 use Rattle.block.specs.Block.{blockLength, blockFits, restored}
 use Rattle.block.proofs.Rows.{rows-agree}

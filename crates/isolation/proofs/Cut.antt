@@ -23,7 +23,7 @@ use Rattle.multiplexer.specs.Located.{clientSlot}
 use Rattle.multiplexer.specs.Calls.{MultiplexerReply, relayed, writeCall}
 use Rattle.multiplexer.proofs.Clients.{goes-nowhere, invalid-refused}
 use Rattle.multiplexer.proofs.Replying.{at-refusal}
-use Rattle.isolation.specs.Isolation.{callBy, serve}
+use Rattle.isolation.specs.Isolation.{serve}
 use Rattle.isolation.specs.Isolation.Kind.{Write}
 use Rattle.isolation.specs.Laws.{GoesTo}
 use Rattle.isolation.proofs.Relaying.{one-call, next-call}

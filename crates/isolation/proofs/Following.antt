@@ -6,8 +6,8 @@ use mathlib.Core.List.{List, [], _∷_}
 use lib.Dec.{eqb}
 use lib.ListN.{length}
 use borrow.Author.Tests.{eqb-true, eqb-false}
-use Rattle.rectangle.specs.Local.{Agree}
 use Rattle.laws.proofs.Tests.{tested}
+use Rattle.rectangle.specs.Local.{Agree}
 use Rattle.port.specs.declared.Port.{Port}
 use Rattle.port.specs.Valid.{Valid}
 use Rattle.reply.specs.Numbers.{numberOf}
@@ -16,9 +16,9 @@ use Rattle.slots.specs.declared.Slot.{Slot}
 use Rattle.slots.specs.declared.Multiplexer.{Multiplexer}
 use Rattle.slots.specs.State.{slotAt, pane, Open}
 use Rattle.slots.specs.Valid.{ValidMultiplexer}
+use Rattle.slots.proofs.Slots.{slot-set}
 use Rattle.isolation.specs.Isolation.{Call, portCall, serve, answerOf, serveAll, standalone, callsOf, answersTo}
 use Rattle.isolation.proofs.Consoles.{keeps-call, alike-call}
-use Rattle.slots.proofs.Slots.{slot-set}
 use Rattle.isolation.proofs.Serving.{goes-to, frame}
 
 -- ---- one open slot against its standalone console

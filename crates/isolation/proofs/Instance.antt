@@ -14,6 +14,8 @@ use Rattle.rectangle.specs.Cells.{inside}
 use Rattle.rectangle.specs.Rectangles.{rectOf, sharesCell}
 use Rattle.rectangle.specs.Edit.{vacated, editedCell, edited, draw}
 use Rattle.rectangle.proofs.Local.{length-edited, edited-at}
+use Rattle.block.specs.Block.{blockLength, blockFits, blockPlace}
+use Rattle.block.proofs.Restores.{restored-inside}
 use Rattle.charset.specs.Stored.{inRange, storedSymbol, storedCapital, storedHigh, storedByte}
 use Rattle.port.specs.declared.Port.{Port}
 use Rattle.port.specs.State.{cursorAt, withView, freshPort}
@@ -21,8 +23,6 @@ use Rattle.port.specs.Valid.{parameters}
 use Rattle.port.specs.Codes.{moveCursorRight, modeOf, storeCell, advanced, printByte, print}
 use Rattle.port.specs.Step.{control, obey, step}
 use Rattle.port.specs.Stream.{stream}
-use Rattle.block.specs.Block.{blockLength, blockFits, blockPlace}
-use Rattle.block.proofs.Restores.{restored-inside}
 use Rattle.reply.specs.declared.Status.the-variants.{Done}
 use Rattle.calls.specs.Calls.{PortReply, written, blockReturned, blockRestored}
 use Rattle.slots.specs.declared.Multiplexer.{Multiplexer}
@@ -31,7 +31,7 @@ use Rattle.slots.specs.Panes.{paneShared}
 use Rattle.slots.specs.Valid.{validMultiplexer, ValidMultiplexer}
 use Rattle.slots.proofs.Validity.{decides-multiplexer}
 use Rattle.slots.proofs.Slots.{decides-client}
-use Rattle.multiplexer.specs.Calls.{MultiplexerReply, opened, openCall}
+use Rattle.multiplexer.specs.Calls.{MultiplexerReply, openCall}
 use Rattle.multiplexer.proofs.Claims.{Claims, decides-pane-shared}
 use Rattle.isolation.specs.Isolation.{Kind, Call, callBy, Answer, serve, serveAll, callsOf, standalone, answersTo, Isolated, SameEnd}
 use Rattle.isolation.specs.Isolation.Kind.{Write, Return, Restore}

@@ -9,17 +9,17 @@ use lib.Dec.{eqb}
 use lib.ListN.{length, getD}
 use lib.Seq.{ext-getD}
 use borrow.Author.Tests.{eqb-true, eqb-false, eq-eqb}
-use Rattle.rectangle.specs.Cells.{Inside}
 use Rattle.laws.proofs.Tests.{tested, below?}
+use Rattle.rectangle.specs.Cells.{Inside}
 use Rattle.rectangle.proofs.Edits.{inside?}
 use Rattle.slots.specs.declared.Slot.{Slot}
 use Rattle.slots.specs.declared.Multiplexer.{Multiplexer}
 use Rattle.slots.specs.State.{noSlot, slotAt, pane, Open, Closed}
 use Rattle.slots.specs.Valid.{validMultiplexer, ValidMultiplexer}
-use Rattle.multiplexer.specs.Calls.{MultiplexerReply}
-use Rattle.isolation.specs.Isolation.{Call, Server, serve, ServesCalls, answerOf, serveAll, callsOf, answersTo, notOpen, Isolated, Isolation}
 use Rattle.slots.proofs.Validity.{decides-multiplexer}
 use Rattle.slots.proofs.Slots.{client?}
+use Rattle.multiplexer.specs.Calls.{MultiplexerReply}
+use Rattle.isolation.specs.Isolation.{Call, Server, serve, ServesCalls, answerOf, serveAll, callsOf, answersTo, notOpen, Isolated, Isolation}
 use Rattle.isolation.proofs.Following.{Follows, follows}
 use Rattle.isolation.proofs.Serving.{SameLabels, turned-away, frame}
 

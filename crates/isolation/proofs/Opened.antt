@@ -5,12 +5,12 @@ use mathlib.Core.Path.{_≡_, refl, _∙_}
 use mathlib.Core.Logic.{⊎-elim}
 use mathlib.Core.List.{List, []}
 use lib.ListN.{length, getD}
+use Rattle.laws.proofs.Tests.{tested}
 use Rattle.rectangle.specs.declared.Rect.{Rect}
 use Rattle.rectangle.specs.declared.Motion.the-variants.{Clear}
 use Rattle.rectangle.specs.Cells.{Inside}
 use Rattle.rectangle.proofs.Edits.{cell-vacated}
 use Rattle.rectangle.proofs.Local.{edited-at, edit-local}
-use Rattle.laws.proofs.Tests.{tested}
 use Rattle.screen.specs.Size.{isScreen}
 use Rattle.screen.proofs.Sizes.{decides-screen}
 use Rattle.port.proofs.Validity.{fresh-valid}
@@ -18,9 +18,9 @@ use Rattle.calls.proofs.Screens.{on-screen, off-screen}
 use Rattle.slots.specs.declared.Multiplexer.{Multiplexer}
 use Rattle.slots.specs.State.{slotAt, Open, slotOf, freshSlot}
 use Rattle.slots.specs.Valid.{ValidMultiplexer}
+use Rattle.slots.proofs.Slots.{slot-client, slot-first, slot-set, slot-kept, set-valid}
 use Rattle.multiplexer.specs.Located.{claimSlot}
 use Rattle.multiplexer.specs.Calls.{MultiplexerReply, onSlot, opened, openCall}
-use Rattle.slots.proofs.Slots.{slot-client, slot-first, slot-set, slot-kept, set-valid}
 use Rattle.multiplexer.proofs.Claims.{Claims, claims, claims-lowest}
 use Rattle.multiplexer.proofs.Replying.{at-slot, by-slot}
 use Rattle.isolation.proofs.Refusals.{Unchanged, screen-refuses}

@@ -1,27 +1,29 @@
 -- Servers that demand 3 excludes. Assumes nothing.
 use Prim.Native.Nat.{ℕ}
 use native.Mathlib.Omega.{arith}
-use mathlib.Core.Path.{_≡_, refl, ap, _∙_}
+use mathlib.Core.Path.{_≡_, refl, sym, ap, _∙_}
 use mathlib.Core.Bool.{cond}
 use mathlib.Core.List.{List, [], _∷_}
 use lib.Dec.{ltb, eqb}
 use lib.ListN.{length, getD, set, length-set}
-use Rattle.rectangle.specs.Edit.{draw}
 use Rattle.laws.proofs.Tests.{not-both}
+use Rattle.rectangle.specs.Edit.{draw}
+use Rattle.block.specs.Block.{blockLength, blockFits, rowStart, rowCells, rowsFrom, blockOf}
 use Rattle.port.specs.Valid.{parameters}
 use Rattle.port.specs.Step.{control, obey, step}
 use Rattle.port.specs.Stream.{stream}
-use Rattle.block.specs.Block.{blockLength, rowStart, rowCells, rowsFrom, blockOf}
 use Rattle.reply.specs.declared.Status.the-variants.{Done, NotOpen}
+use Rattle.reply.specs.Numbers.{numberOf}
 use Rattle.reply.specs.Reply.{refusal}
-use Rattle.calls.specs.Calls.{written, blockReturned}
+use Rattle.calls.specs.Calls.{written, blockReturned, blockRestored}
 use Rattle.slots.specs.declared.Slot.{Slot}
 use Rattle.slots.specs.State.{freeSlot, slotAt, slotOf}
-use Rattle.multiplexer.specs.Calls.{MultiplexerReply, relayed}
-use Rattle.isolation.specs.Isolation.{Call, callBy, lentBlock, portCall, Answer, Server, serve, serveAll, standalone, callsOf, answersTo, Isolation}
-use Rattle.isolation.specs.Isolation.Kind.{Write, Return}
 use Rattle.slots.proofs.Validity.{decides-multiplexer}
+use Rattle.multiplexer.specs.Calls.{MultiplexerReply, relayed}
+use Rattle.isolation.specs.Isolation.{Kind, Call, callBy, lentBlock, portCall, Answer, Server, serve, ServesCalls, serveAll, standalone, callsOf, answersTo, Isolation}
+use Rattle.isolation.specs.Isolation.Kind.{Write, Return, Restore}
 use Rattle.isolation.proofs.Serving.{goes-to}
+use Rattle.isolation.proofs.Isolation.{serves-calls}
 use Rattle.isolation.proofs.Instance.{blankScreen, blank-length, pair, pair-valid, left-open, right-open, none-0}
 
 -- the call, on slot i whatever its client
@@ -106,4 +108,23 @@ unfolding showsOther markedScreen firstCell blankScreen pair serveAll callsOf st
 not-shows-other d =
     let len : length markedScreen ≡ 1920 = length-set blankScreen 0 0x81 ∙ blank-length in
     let e : _≡_ {A = ℕ} 0xa0 0x81 = ap firstCell (d .isolated pair markedScreen (callBy 7 (Return (0 ∷ 0 ∷ 0 ∷ 0 ∷ 0 ∷ 0 ∷ [])) ∷ []) pair-valid len .answers 0 left-open) in
+    omega arith
+
+-- and one that its calls exclude: a block return restores, and a block restore returns
+swapped : Kind → Kind
+swapped (Write bytes) = Write bytes
+swapped (Return block) = Restore block
+swapped (Restore block) = Return block
+
+swapsBlocks : Server
+swapsBlocks m s c = serve m s (callBy (c .client) (swapped (c .kind)))
+
+not-swaps-blocks : ServesCalls swapsBlocks → ⊥
+unfolding swapsBlocks swapped pair blockReturned blockRestored blockLength blockFits
+not-swaps-blocks d =
+    let valid = decides-multiplexer pair .holds pair-valid in
+    let returned = goes-to pair blankScreen (callBy 7 (Return [])) valid blank-length 0 left-open refl in
+    let restored = goes-to pair blankScreen (callBy 7 (Restore [])) valid blank-length 0 left-open refl in
+    let same = serves-calls .return pair blankScreen 7 [] in
+    let e : _≡_ {A = ℕ} 10 9 = ap (λ (r : MultiplexerReply). numberOf (r .status)) (sym restored ∙ d .return pair blankScreen 7 [] ∙ sym same ∙ returned) in
     omega arith

@@ -7,21 +7,20 @@ use lib.ListN.{length, getD}
 use Rattle.rectangle.specs.Cells.{Inside}
 use Rattle.port.specs.declared.Port.{Port}
 use Rattle.port.specs.Valid.{Valid}
-use Rattle.slots.specs.declared.Slot.{Slot}
-use Rattle.slots.specs.declared.Multiplexer.{Multiplexer}
 use Rattle.reply.specs.declared.Status.the-variants.{NotOpen}
 use Rattle.reply.specs.Reply.{refusal}
 use Rattle.calls.proofs.Screens.{on-screen}
+use Rattle.slots.specs.declared.Slot.{Slot}
+use Rattle.slots.specs.declared.Multiplexer.{Multiplexer}
 use Rattle.slots.specs.State.{slotAt, pane, Open, withPort, Closed}
 use Rattle.slots.specs.Valid.{ValidMultiplexer}
-use Rattle.multiplexer.specs.Located.{clientSlot}
+use Rattle.slots.proofs.Slots.{client?, slot-kept, at-place, set-valid}
 use Rattle.multiplexer.specs.Calls.{MultiplexerReply, relayed}
 use Rattle.multiplexer.proofs.Clients.{goes-to-slot, goes-nowhere}
 use Rattle.multiplexer.proofs.Replying.{at-slot, at-refusal}
 use Rattle.isolation.specs.Isolation.{Kind, Call, lentBlock, portCall, onClientSlot, serve}
 use Rattle.isolation.specs.Isolation.Kind.{Write, Return, Restore}
 use Rattle.isolation.proofs.Consoles.{keeps-call}
-use Rattle.slots.proofs.Slots.{client?, slot-kept, at-place, set-valid}
 
 -- the same clients and panes
 pub record SameLabels (a b : Multiplexer) : Type 0 where

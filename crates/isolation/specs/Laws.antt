@@ -7,12 +7,12 @@ use Rattle.rectangle.specs.declared.Rect.{Rect}
 use Rattle.rectangle.specs.Cells.{Inside}
 use Rattle.rectangle.specs.Rectangles.{widthOf, heightOf, Legal}
 use Rattle.block.specs.Block.{blockLength}
-use Rattle.slots.specs.declared.Multiplexer.{Multiplexer}
 use Rattle.reply.specs.declared.Status.{Status}
 use Rattle.reply.specs.declared.Status.the-variants.{Done, ScreenLength, Invalid, ClientZero, PaneIllegal, ClientTaken, PaneShared, Full, NotOpen, BlockTooShort, BlockMismatch}
+use Rattle.reply.specs.Numbers.{numberOf}
+use Rattle.slots.specs.declared.Multiplexer.{Multiplexer}
 use Rattle.slots.specs.State.{slotAt, pane, Open, Free, Closed}
 use Rattle.slots.specs.Valid.{ValidMultiplexer}
-use Rattle.reply.specs.Numbers.{numberOf}
 use Rattle.multiplexer.specs.Calls.{writeCall, returnCall, restoreCall, openCall, closeCall}
 
 -- ---- when each status is given

@@ -23,7 +23,7 @@ use Rattle.calls.specs.Calls.{PortCall}
 use Rattle.calls.specs.Screens.{onScreen}
 use Rattle.slots.specs.declared.Slot.{Slot}
 use Rattle.slots.specs.declared.Multiplexer.{Multiplexer}
-use Rattle.slots.specs.State.{newSlot, freeSlot, freshSlot, slotAt, slotOf, withSlot, withPort}
+use Rattle.slots.specs.State.{newSlot, freeSlot, slotAt, withSlot, withPort}
 use Rattle.multiplexer.specs.declared.Answer.{Answer}
 use Rattle.multiplexer.specs.declared.Located.{Located}
 use Rattle.multiplexer.specs.declared.Located.the-variants.{Refused, At}

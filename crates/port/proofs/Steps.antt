@@ -9,8 +9,8 @@ use lib.Dec.{ltb, eqb}
 use lib.ListN.{getD, set}
 use lib.Seq.{getD-set-other}
 use borrow.Author.Tests.{ltb-true}
-use Rattle.rectangle.specs.declared.Motion.the-variants.{Up, Down}
 use Rattle.laws.proofs.Tests.{by-test}
+use Rattle.rectangle.specs.declared.Motion.the-variants.{Up, Down}
 use Rattle.port.specs.declared.Port.{Port}
 use Rattle.port.specs.State.{noParameters, withSaved, defaultView}
 use Rattle.port.specs.Valid.{parameters, usedOrZero, unusedZero, countFits, validWait, ValidView, ValidWait, Valid}

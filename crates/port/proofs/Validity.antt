@@ -8,13 +8,13 @@ use native.Mathlib.Omega.{arith}
 use lib.Dec.{ltb, eqb}
 use lib.ListN.{getD}
 use borrow.Author.Tests.{eqb-true, eqb-false, eq-eqb, ne-eqb}
-use Rattle.rectangle.proofs.Rectangles.{decides-legal, decides-within, decides-zero-rect}
-use Rattle.rectangle.specs.declared.Rect.{Rect}
 use Rattle.laws.proofs.Tests.{tested, not-both, Decides, decides-lt, decides-le, decides-eq, decides-both, decides-if, decides-unless, decides-four, decides-as, decides-off}
+use Rattle.rectangle.specs.declared.Rect.{Rect}
+use Rattle.rectangle.specs.Rectangles.{Legal}
+use Rattle.rectangle.proofs.Rectangles.{decides-legal, decides-within, decides-zero-rect}
 use Rattle.port.specs.declared.Flags.{Flags}
 use Rattle.port.specs.declared.View.{View}
 use Rattle.port.specs.declared.Port.{Port}
-use Rattle.rectangle.specs.Rectangles.{Legal}
 use Rattle.port.specs.State.{allFlags, zeroView, noParameters, zeroPort, cursorAt, withFlags, withModes, withViewport, withView, withSaved, withWait, defaultView, freshPort}
 use Rattle.port.specs.Valid.{cursorInside, validView, ValidView, noFlags, isZeroView, validSaved, parameters, usedOrZero, unusedZero, countFits, validWait, ValidWait, valid, Valid, isZeroPort, ZeroPort}
 

@@ -6,16 +6,16 @@ use mathlib.Core.List.{List, [], _∷_}
 use native.Mathlib.Omega.{arith}
 use lib.Dec.{ltb, eqb}
 use borrow.Author.Tests.{ltb-true}
+use Rattle.laws.proofs.Tests.{by-test, and-left, and-right}
 use Rattle.rectangle.specs.declared.Rect.{Rect}
 use Rattle.rectangle.specs.declared.Edit.{Edit}
 use Rattle.rectangle.specs.declared.Motion.{Motion}
 use Rattle.rectangle.specs.Local.{AllWithin}
-use Rattle.laws.proofs.Tests.{by-test, and-left, and-right}
+use Rattle.rectangle.specs.Rectangles.{Legal}
 use Rattle.rectangle.proofs.Local.{all-append}
 use Rattle.charset.specs.Stored.{storedByte}
 use Rattle.port.specs.declared.Flags.{Flags}
 use Rattle.port.specs.declared.View.{View}
-use Rattle.rectangle.specs.Rectangles.{Legal}
 use Rattle.port.specs.Valid.{ValidView}
 use Rattle.port.specs.State.{cursorAt, withFlags, withModes}
 use Rattle.port.specs.Effect.{Effect, becomes, draws, andThen}

@@ -6,11 +6,11 @@ use lib.Dec.{ltb, leb, eqb}
 use Rattle.rectangle.specs.declared.Rect.{Rect}
 use Rattle.rectangle.specs.declared.Edit.{Edit}
 use Rattle.rectangle.specs.declared.Motion.the-variants.{Clear, Up, Down, Left, Right}
+use Rattle.rectangle.specs.Rectangles.{rectOf}
 use Rattle.charset.specs.declared.Mode.{Mode}
 use Rattle.charset.specs.declared.Mode.the-variants.{Normal, Inverse, MouseText}
 use Rattle.charset.specs.Stored.{storedByte}
 use Rattle.port.specs.declared.View.{View}
-use Rattle.rectangle.specs.Rectangles.{rectOf}
 use Rattle.port.specs.State.{cursorAt, withFlags, withModes, withViewport}
 use Rattle.port.specs.Effect.{Effect, becomes, draws, andThen, homed, eraseEdit, moveEdit, lineSpan, viewLines}
 

@@ -5,8 +5,8 @@ use Rattle.rectangle.specs.declared.Rect.{Rect}
 use Rattle.rectangle.specs.declared.Edit.{Edit}
 use Rattle.rectangle.specs.declared.Motion.{Motion}
 use Rattle.rectangle.specs.declared.Motion.the-variants.{Clear}
-use Rattle.port.specs.declared.View.{View}
 use Rattle.rectangle.specs.Rectangles.{rectOf}
+use Rattle.port.specs.declared.View.{View}
 use Rattle.port.specs.State.{cursorAt}
 
 pub record Effect : Type 0 where

@@ -2,8 +2,8 @@
 use Prim.Native.Nat.{ℕ}
 use mathlib.Core.Bool.{Bool, true, false}
 use mathlib.Core.List.{List, [], _∷_}
-use Rattle.rectangle.specs.Rectangles.{rectOf}
 use Rattle.rectangle.specs.declared.Rect.{Rect}
+use Rattle.rectangle.specs.Rectangles.{rectOf}
 use Rattle.port.specs.declared.Flags.{Flags}
 use Rattle.port.specs.declared.View.{View}
 use Rattle.port.specs.declared.Port.{Port}

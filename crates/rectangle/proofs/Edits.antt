@@ -1,15 +1,14 @@
 -- What an edit leaves in one cell, by where the cell lies. Assumes nothing.
 use Prim.Native.Nat.{ℕ, _+_, _≤_, _<_}
 use mathlib.Core.Path.{_≡_, refl, sym, _∙_}
-use mathlib.Core.Bool.{Bool, false}
-use mathlib.Core.Logic.{_⊎_, inl, inr, ⊎-elim}
+use mathlib.Core.Logic.{_⊎_, ⊎-elim}
 use borrow.Author.Needs.{needs}
-use Rattle.rectangle.specs.Cells.{columnOf, lineOf, Inside, inside}
-use Rattle.rectangle.specs.Edit.{vacated, origin, editedCell}
+use Rattle.laws.proofs.Tests.{either, fails, Decides, decides-lt, decides-le, decides-eq, decides-both, decides-as}
 use Rattle.rectangle.specs.declared.Rect.{Rect}
 use Rattle.rectangle.specs.declared.Motion.{Motion}
 use Rattle.rectangle.specs.declared.Motion.the-variants.{Clear, Up, Down, Left, Right}
-use Rattle.laws.proofs.Tests.{either, fails, Decides, decides-lt, decides-le, decides-eq, decides-both, decides-as}
+use Rattle.rectangle.specs.Cells.{columnOf, lineOf, Inside, inside}
+use Rattle.rectangle.specs.Edit.{vacated, origin, editedCell}
 
 pub decides-inside : (r : Rect) (i : ℕ) → Decides (inside r i) (Inside r i)
 unfolding inside

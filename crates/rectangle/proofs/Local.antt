@@ -8,14 +8,14 @@ use borrow.Author.Needs.{needs}
 use lib.ListN.{length, getD, List·getD-eq-default}
 use lib.Seq.{ext-getD}
 use Rattle.laws.specs.Tabulate.{length-tabulate, getD-tabulate}
+use Rattle.laws.proofs.Tests.{below?}
+use Rattle.rectangle.specs.declared.Rect.{Rect}
+use Rattle.rectangle.specs.declared.Edit.{Edit}
+use Rattle.rectangle.specs.declared.Motion.{Motion}
 use Rattle.rectangle.specs.Cells.{Inside}
 use Rattle.rectangle.specs.Edit.{editedCell, edited, draw, drawCell}
 use Rattle.rectangle.specs.Rectangles.{Within, Apart}
 use Rattle.rectangle.specs.Local.{Local, AllWithin}
-use Rattle.rectangle.specs.declared.Rect.{Rect}
-use Rattle.rectangle.specs.declared.Edit.{Edit}
-use Rattle.rectangle.specs.declared.Motion.{Motion}
-use Rattle.laws.proofs.Tests.{below?}
 use Rattle.rectangle.proofs.Edits.{inside?, cell-outside, cell-same}
 
 -- an edit, cell by cell

@@ -2,10 +2,10 @@
 use Prim.Native.Nat.{ℕ, _+_, _-_, _*_, _≤_}
 use native.Mathlib.Omega.{arith}
 use borrow.Author.Needs.{needs}
+use Rattle.laws.proofs.Tests.{Decides, decides-le, decides-both, decides-as}
 use Rattle.rectangle.specs.declared.Rect.{Rect}
 use Rattle.rectangle.specs.Cells.{Inside}
 use Rattle.rectangle.specs.Rectangles.{Apart, Legal, sharesCell}
-use Rattle.laws.proofs.Tests.{Decides, decides-le, decides-both, decides-as}
 
 -- what the test compares
 pub record Overlap (r q : Rect) : Type 0 where

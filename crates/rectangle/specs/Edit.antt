@@ -5,11 +5,11 @@ use mathlib.Core.List.{List, [], _∷_}
 use lib.Dec.{ltb, eqb}
 use lib.ListN.{getD}
 use Rattle.laws.specs.Tabulate.{tabulate}
-use Rattle.rectangle.specs.Cells.{columnOf, lineOf, inside}
 use Rattle.rectangle.specs.declared.Rect.{Rect}
 use Rattle.rectangle.specs.declared.Edit.{Edit}
 use Rattle.rectangle.specs.declared.Motion.{Motion}
 use Rattle.rectangle.specs.declared.Motion.the-variants.{Clear, Up, Down, Left, Right}
+use Rattle.rectangle.specs.Cells.{columnOf, lineOf, inside}
 
 -- 'vacated': no cell of the rectangle moves to its cell i
 unfoldable pub vacated : Rect → Motion → ℕ → Bool

@@ -3,10 +3,10 @@ use Prim.Native.Nat.{ℕ}
 use mathlib.Core.Path.{_≡_}
 use mathlib.Core.List.{List, [], _∷_}
 use lib.ListN.{length, getD}
-use Rattle.rectangle.specs.Cells.{Inside}
-use Rattle.rectangle.specs.Rectangles.{Within}
 use Rattle.rectangle.specs.declared.Rect.{Rect}
 use Rattle.rectangle.specs.declared.Edit.{Edit}
+use Rattle.rectangle.specs.Cells.{Inside}
+use Rattle.rectangle.specs.Rectangles.{Within}
 
 -- two screens hold the same bytes in a rectangle
 abbrev pub Agree : Rect → List ℕ → List ℕ → Type 0

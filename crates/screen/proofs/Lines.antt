@@ -6,16 +6,16 @@ use native.Mathlib.Omega.{arith}
 use borrow.Author.Needs.{needs}
 use lib.ListN.{length, getD}
 use lib.Seq.{ext-getD}
-use Rattle.rectangle.specs.Cells.{lineOf, Inside}
-use Rattle.rectangle.specs.Rectangles.{OnScreen}
-use Rattle.screen.specs.Rewrite.{Rewritten}
-use Rattle.rectangle.specs.Edit.{origin, editedCell, edited}
 use Rattle.rectangle.specs.declared.Rect.{Rect}
 use Rattle.rectangle.specs.declared.Motion.{Motion}
 use Rattle.rectangle.specs.declared.Motion.the-variants.{Up, Down, Left, Right}
-use Rattle.screen.proofs.Rewrites.{holds, wider, then-after, then-before}
+use Rattle.rectangle.specs.Cells.{lineOf, Inside}
+use Rattle.rectangle.specs.Rectangles.{OnScreen}
+use Rattle.rectangle.specs.Edit.{origin, editedCell, edited}
 use Rattle.rectangle.proofs.Edits.{Vacated, cell-outside, cell-vacated, cell-moved}
 use Rattle.rectangle.proofs.Local.{length-edited, edited-at}
+use Rattle.screen.specs.Rewrite.{Rewritten}
+use Rattle.screen.proofs.Rewrites.{holds, wider, then-after, then-before}
 
 -- what an edit of the screen s leaves in a cell
 abbrev cellOf : Rect → Motion → ℕ → List ℕ → ℕ → ℕ

@@ -6,8 +6,8 @@ use mathlib.Core.List.{List}
 use native.Mathlib.Omega.{arith}
 use lib.ListN.{length, getD, set, length-set}
 use lib.Seq.{getD-set-same, getD-set-other}
-use Rattle.screen.specs.Rewrite.{Rewritten, Copied}
 use Rattle.laws.proofs.Tests.{below?}
+use Rattle.screen.specs.Rewrite.{Rewritten, Copied}
 
 -- nothing is done yet
 pub none : {a : ℕ} {f : ℕ → ℕ} {s : List ℕ} → Rewritten a a f s s

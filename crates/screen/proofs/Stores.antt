@@ -6,10 +6,10 @@ use mathlib.Core.List.{List}
 use native.Mathlib.Omega.{arith}
 use lib.ListN.{length, getD, set, length-set}
 use lib.Seq.{ext-getD, getD-set-same, getD-set-other}
+use Rattle.rectangle.specs.declared.Motion.the-variants.{Clear}
 use Rattle.rectangle.specs.Cells.{Inside}
 use Rattle.rectangle.specs.Rectangles.{cellAt}
 use Rattle.rectangle.specs.Edit.{editedCell, edited}
-use Rattle.rectangle.specs.declared.Motion.the-variants.{Clear}
 use Rattle.rectangle.proofs.Edits.{inside?, cell-outside, cell-vacated}
 use Rattle.rectangle.proofs.Local.{length-edited, edited-at}
 

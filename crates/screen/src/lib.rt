@@ -6,6 +6,7 @@ use rectangle::Rect;
 use rectangle::width;
 ghost use mathlib.Core.Path.{_≡_};
 ghost use Prim.Native.Nat.{_+_, _-_, _*_, _≤_, _<_, min};
+ghost use mathlib.Core.List.{[]};
 ghost use lib.ListN.{length, take, drop};
 ghost use Rattle.rectangle.specs.Rectangles.{OnScreen, cellAt};
 ghost use Rattle.screen.specs.Size.{isScreen};
@@ -90,6 +91,13 @@ pub fn part_of_line(screen: &[u8], column: usize, line: usize, count: usize) -> 
     let start = cell_index(column, line);
     let end = start + count;
     &screen[start..end]
+}
+
+// No cell, as a part of the lent screen, whose length may be any.
+pub fn no_cells(screen: &[u8]) -> &[u8]
+    ensures { λ r. ⌜ now r ≡ [] ⌝ }
+{
+    &screen[0..0]
 }
 
 // Each cell from start up to end becomes byte.

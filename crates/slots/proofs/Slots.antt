@@ -8,8 +8,8 @@ use lib.Dec.{eqb}
 use lib.ListN.{length-set}
 use lib.Seq.{getD-set-same, getD-set-other}
 use borrow.Author.Tests.{eqb-true, eqb-false}
-use Rattle.rectangle.specs.Rectangles.{Apart}
 use Rattle.laws.proofs.Tests.{tested, not-both, below?, by-test, Decides, decides-eq, decides-lt, decides-both, decides-as, decides-not}
+use Rattle.rectangle.specs.Rectangles.{Apart}
 use Rattle.slots.specs.declared.Slot.{Slot}
 use Rattle.slots.specs.declared.Multiplexer.{Multiplexer}
 use Rattle.slots.specs.State.{noSlot, slotAt, pane, Open, slotOf, hasClient, withSlot, Closed}

@@ -7,15 +7,15 @@ use mathlib.Core.Logic.{inl, inr, ⊎-elim}
 use lib.Dec.{eqb}
 use lib.ListN.{length}
 use borrow.Author.Tests.{eqb-true, eqb-false, eq-eqb, ne-eqb}
-use Rattle.rectangle.specs.Rectangles.{Apart}
 use Rattle.laws.proofs.Tests.{below?, Decides, decides-eq, decides-both, decides-if, decides-as, decides-four, decides-else, decides-either, decides-not}
+use Rattle.rectangle.specs.Rectangles.{Apart}
+use Rattle.rectangle.proofs.Overlaps.{Overlap, decides-overlap, overlap-apart, apart-overlap}
 use Rattle.port.specs.Valid.{Valid, ZeroPort}
 use Rattle.port.proofs.Validity.{decides-valid, decides-zero-port, zero-port-is-zero}
 use Rattle.slots.specs.declared.Slot.{Slot}
 use Rattle.slots.specs.declared.Multiplexer.{Multiplexer}
 use Rattle.slots.specs.State.{freeSlot, slotAt, pane, Open}
 use Rattle.slots.specs.Valid.{validSlot, compatible, validSlots, validMultiplexer, ValidMultiplexer}
-use Rattle.rectangle.proofs.Overlaps.{Overlap, decides-overlap, overlap-apart, apart-overlap}
 
 -- ---- one slot, and two
 abbrev pub SlotFacts : Slot → Type 0

@@ -1,8 +1,8 @@
 -- Paper 01, 'What comes back': when a pane shares a cell with another. Assumes nothing.
 use mathlib.Core.Bool.{Bool, not, _&&_, _||_}
-use lib.Dec.{leb, eqb}
-use Rattle.rectangle.specs.Rectangles.{sharesCell}
+use lib.Dec.{eqb}
 use Rattle.rectangle.specs.declared.Rect.{Rect}
+use Rattle.rectangle.specs.Rectangles.{sharesCell}
 use Rattle.slots.specs.declared.Slot.{Slot}
 use Rattle.slots.specs.declared.Multiplexer.{Multiplexer}
 use Rattle.slots.specs.State.{slotAt}

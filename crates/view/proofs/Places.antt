@@ -5,10 +5,10 @@ use mathlib.Core.Bool.{Bool, true, _&&_}
 use native.Mathlib.Omega.{arith}
 use lib.Dec.{leb, ltb}
 use borrow.Author.Tests.{leb-true}
+use Rattle.laws.proofs.Tests.{by-test, and-left, and-right}
 use Rattle.rectangle.specs.declared.Edit.{Edit}
 use Rattle.rectangle.specs.declared.Motion.the-variants.{Left}
 use Rattle.rectangle.specs.Rectangles.{OnScreen, rectOf}
-use Rattle.laws.proofs.Tests.{by-test, and-left, and-right}
 use Rattle.port.specs.declared.View.{View}
 use Rattle.port.specs.State.{cursorAt}
 use Rattle.port.specs.Effect.{moveEdit}

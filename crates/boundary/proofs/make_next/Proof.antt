@@ -1,8 +1,8 @@
 -- `boundary::make_next` meets its contract: a call that was found lies in the script, and past its place. Assumes nothing.
 use native.Mathlib.Omega.{arith}
 use lib.ListN.{length}
-use Rattle.boundary.proofs.Calls.{lies}
 use borrow.Author.Needs.{needs}
+use Rattle.boundary.proofs.Calls.{lies}
 use Rattle.boundary.proofs.make_next.Statement.{statement}
 use Rattle.boundary.proofs.make_next.Tie as tie
 

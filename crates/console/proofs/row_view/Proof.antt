@@ -10,14 +10,8 @@ judge-requires c κs = search needs
 enum-told : tie.Need-enum-told
 enum-told c = search needs
 
-sub-result : tie.Need-sub-result
-sub-result c = search needs
-
-part-result-start : tie.Need-part-result-start
-part-result-start c = search needs
-
-part-result-end : tie.Need-part-result-end
-part-result-end c = search needs
+no-cells-requires : tie.Need-no-cells-requires
+no-cells-requires c κs = search needs
 
 enum-told-2 : tie.Need-enum-told-2
 enum-told-2 c = search needs
@@ -34,14 +28,8 @@ row-cells-requires c κs = search (acceptances, needs)
 returns : tie.Need-returns
 returns c = search row-good
 
-sub-result-2 : tie.Need-sub-result-2
-sub-result-2 c = search needs
-
-part-result-start-2 : tie.Need-part-result-start-2
-part-result-start-2 c = search needs
-
-part-result-end-2 : tie.Need-part-result-end-2
-part-result-end-2 c = search needs
+no-cells-requires-2 : tie.Need-no-cells-requires-2
+no-cells-requires-2 c κs = search needs
 
 returns-2 : tie.Need-returns-2
 returns-2 c = search row-refused
@@ -55,16 +43,12 @@ row-view-spec =
     (tie.spec
     judge-requires
     enum-told
-    sub-result
-    part-result-start
-    part-result-end
+    no-cells-requires
     enum-told-2
     height-requires
     cast-if1
     row-cells-requires
     returns
-    sub-result-2
-    part-result-start-2
-    part-result-end-2
+    no-cells-requires-2
     returns-2
     returns-3)

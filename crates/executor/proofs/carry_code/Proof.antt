@@ -1,6 +1,6 @@
 -- `executor::carry_code` meets its contract: a code that is printed, by its stored byte. Assumes nothing.
-use Rattle.executor.proofs.Carrying.{code-on-screen, code-carried}
 use borrow.Author.Needs.{needs}
+use Rattle.executor.proofs.Carrying.{code-on-screen, code-carried}
 use Rattle.executor.proofs.carry_code.Statement.{statement}
 use Rattle.executor.proofs.carry_code.Tie as tie
 

@@ -1,6 +1,6 @@
 -- `executor::carry_single` meets its contract: a printing code, or a stream of the one byte. Assumes nothing.
-use Rattle.executor.proofs.Carrying.{passed, stored-as, single-carried, same-size}
 use borrow.Author.Needs.{needs}
+use Rattle.executor.proofs.Carrying.{passed, stored-as, single-carried, same-size}
 use Rattle.executor.proofs.carry_single.Statement.{statement}
 use Rattle.executor.proofs.carry_single.Tie as tie
 

@@ -1,7 +1,7 @@
 -- `executor::print_byte` meets its contract: the cell is stored, and then comes what the cursor's move draws. Assumes nothing.
+use borrow.Author.Needs.{needs}
 use Rattle.executor.proofs.Draws.{edited-size, drawn-edit, draws-nothing, draws-one}
 use Rattle.executor.proofs.Printing.{cell-on-screen, move-on-screen, printed}
-use borrow.Author.Needs.{needs}
 use Rattle.executor.proofs.print_byte.Statement.{statement}
 use Rattle.executor.proofs.print_byte.Tie as tie
 

@@ -8,8 +8,8 @@ use mathlib.Core.List.{List}
 use native.Mathlib.Omega.{arith}
 use borrow.Author.Needs.{needs}
 use lib.ListN.{getD}
-use Rattle.screen.specs.Rewrite.{Rewritten}
 use Rattle.laws.proofs.Tests.{below?}
+use Rattle.screen.specs.Rewrite.{Rewritten}
 use Rattle.screen.proofs.Rewrites.{none, ends, one-after}
 use Rattle.screen.proofs.copy_line.Statement.{statement}
 use Rattle.screen.proofs.copy_line.Tie as tie

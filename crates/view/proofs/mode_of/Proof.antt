@@ -1,6 +1,6 @@
 -- `view::mode_of` meets its contract: it asks the definition's two questions in the definition's order. Assumes nothing.
-use Rattle.port.specs.Codes.{modeOf}
 use Rattle.laws.proofs.Choices.{choices}
+use Rattle.port.specs.Codes.{modeOf}
 use Rattle.view.proofs.mode_of.Statement.{statement}
 use Rattle.view.proofs.mode_of.Tie as tie
 

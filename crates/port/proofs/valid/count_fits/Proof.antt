@@ -1,8 +1,8 @@
 -- `port::valid::count_fits` meets its contract: the test is the definition's, by what `parameters` returns. Assumes nothing.
 use borrow.Author.Needs.{needs}
 use Rattle.laws.proofs.Choices.{choices}
-use Rattle.port.proofs.Validity.{fits-count}
 use Rattle.port.specs.Valid.{countFits}
+use Rattle.port.proofs.Validity.{fits-count}
 use Rattle.port.proofs.valid.count_fits.Statement.{statement}
 use Rattle.port.proofs.valid.count_fits.Tie as tie
 

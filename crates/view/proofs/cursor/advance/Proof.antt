@@ -1,7 +1,7 @@
 -- `view::cursor::advance` meets its contract: the flag decides, as in the definition, between what `move_cursor_right` promises and nothing. Assumes nothing.
 use borrow.Author.Needs.{needs}
-use Rattle.port.specs.Codes.{advanced}
 use Rattle.laws.proofs.Choices.{choices}
+use Rattle.port.specs.Codes.{advanced}
 use Rattle.view.proofs.Plans.{plans}
 use Rattle.view.proofs.cursor.advance.Statement.{statement}
 use Rattle.view.proofs.cursor.advance.Tie as tie

@@ -2,8 +2,8 @@
 -- A line to wrap from is below the top one, so one can be taken from its number. Assumes nothing.
 use native.Mathlib.Omega.{arith}
 use borrow.Author.Needs.{needs}
-use Rattle.port.specs.Codes.{backspace}
 use Rattle.laws.proofs.Choices.{choices}
+use Rattle.port.specs.Codes.{backspace}
 use Rattle.view.proofs.Moves.{and-below}
 use Rattle.view.proofs.Plans.{plans}
 use Rattle.view.proofs.cursor.backspace.Statement.{statement}

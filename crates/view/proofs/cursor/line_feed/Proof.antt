@@ -1,7 +1,7 @@
 -- `view::cursor::line_feed` meets its contract: each of the three ways through it is an arm of the definition. Assumes nothing.
 use borrow.Author.Needs.{needs}
-use Rattle.port.specs.Codes.{lineFeed}
 use Rattle.laws.proofs.Choices.{choices}
+use Rattle.port.specs.Codes.{lineFeed}
 use Rattle.view.proofs.Plans.{plans}
 use Rattle.view.proofs.cursor.line_feed.Statement.{statement}
 use Rattle.view.proofs.cursor.line_feed.Tie as tie

@@ -2,8 +2,8 @@
 -- A line to wrap to is at most the bottom one, so its number fits a byte. Assumes nothing.
 use native.Mathlib.Omega.{arith}
 use borrow.Author.Needs.{needs}
-use Rattle.port.specs.Codes.{moveCursorRight}
 use Rattle.laws.proofs.Choices.{choices}
+use Rattle.port.specs.Codes.{moveCursorRight}
 use Rattle.view.proofs.Moves.{and-below}
 use Rattle.view.proofs.Plans.{plans}
 use Rattle.view.proofs.cursor.move_cursor_right.Statement.{statement}

@@ -1,7 +1,7 @@
 -- `view::cursor::move_cursor_up` meets its contract: each of the three ways through it is an arm of the definition. Assumes nothing.
 use borrow.Author.Needs.{needs}
-use Rattle.port.specs.Codes.{moveCursorUp}
 use Rattle.laws.proofs.Choices.{choices}
+use Rattle.port.specs.Codes.{moveCursorUp}
 use Rattle.view.proofs.Plans.{plans}
 use Rattle.view.proofs.cursor.move_cursor_up.Statement.{statement}
 use Rattle.view.proofs.cursor.move_cursor_up.Tie as tie

@@ -1,7 +1,7 @@
 -- `view::erase::clear_from_port_start` meets its contract: the lines above are erased first where there are any, and its own line in either case. Assumes nothing.
 use borrow.Author.Needs.{needs}
-use Rattle.port.specs.Codes.{clearFromPortStart, clearLinesAbove}
 use Rattle.laws.proofs.Choices.{choices, appended}
+use Rattle.port.specs.Codes.{clearFromPortStart, clearLinesAbove}
 use Rattle.view.proofs.Plans.{same-edits}
 use Rattle.view.proofs.erase.clear_from_port_start.Statement.{statement}
 use Rattle.view.proofs.erase.clear_from_port_start.Tie as tie

@@ -1,7 +1,7 @@
 -- `view::erase::clear_to_port_end` meets its contract: its own line is erased first in either case, and the lines below where there are any. Assumes nothing.
 use borrow.Author.Needs.{needs}
-use Rattle.port.specs.Codes.{clearToPortEnd, clearLinesBelow}
 use Rattle.laws.proofs.Choices.{choices}
+use Rattle.port.specs.Codes.{clearToPortEnd, clearLinesBelow}
 use Rattle.view.proofs.Plans.{same-edits}
 use Rattle.view.proofs.erase.clear_to_port_end.Statement.{statement}
 use Rattle.view.proofs.erase.clear_to_port_end.Tie as tie

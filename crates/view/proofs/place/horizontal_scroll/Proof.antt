@@ -1,8 +1,8 @@
 -- `view::place::horizontal_scroll` meets its contract: each of the three ways through it is an arm of the definition.
 -- 255 less a byte, and one more, is 256 less it. Assumes nothing.
 use borrow.Author.Needs.{needs}
-use Rattle.port.specs.Codes.{horizontalScroll}
 use Rattle.laws.proofs.Choices.{choices}
+use Rattle.port.specs.Codes.{horizontalScroll}
 use Rattle.view.proofs.Places.{back-by}
 use Rattle.view.proofs.Plans.{plans}
 use Rattle.view.proofs.place.horizontal_scroll.Statement.{statement}

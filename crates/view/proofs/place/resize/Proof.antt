@@ -1,7 +1,7 @@
 -- `view::place::resize` meets its contract: it makes the definition's test, and sets the viewport as the definition does. Assumes nothing.
 use borrow.Author.Needs.{needs}
-use Rattle.port.specs.Codes.{resize}
 use Rattle.laws.proofs.Choices.{choices}
+use Rattle.port.specs.Codes.{resize}
 use Rattle.view.proofs.place.resize.Statement.{statement}
 use Rattle.view.proofs.place.resize.Tie as tie
 

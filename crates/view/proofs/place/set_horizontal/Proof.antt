@@ -1,8 +1,8 @@
 -- `view::place::set_horizontal` meets its contract: below 32 nothing changes.
 -- From there on the way from the left edge is at most that to the right one, so the column is at most the last. Assumes nothing.
 use borrow.Author.Needs.{needs}
-use Rattle.port.specs.Codes.{setHorizontal}
 use Rattle.laws.proofs.Choices.{choices}
+use Rattle.port.specs.Codes.{setHorizontal}
 use Rattle.view.proofs.Places.{placed, clamped}
 use Rattle.view.proofs.place.set_horizontal.Statement.{statement}
 use Rattle.view.proofs.place.set_horizontal.Tie as tie

@@ -1,8 +1,8 @@
 -- `view::place::set_port_size` meets its contract: `nearest` may be asked, since all four parameters are in range there.
 -- What `resize` is given is the definition's rectangle. Assumes nothing.
 use borrow.Author.Needs.{needs}
-use Rattle.port.specs.Codes.{setPortSize}
 use Rattle.laws.proofs.Choices.{choices}
+use Rattle.port.specs.Codes.{setPortSize}
 use Rattle.view.proofs.Places.{offsets, same-tests, same-edges}
 use Rattle.view.proofs.place.set_port_size.Statement.{statement}
 use Rattle.view.proofs.place.set_port_size.Tie as tie

@@ -1,8 +1,8 @@
 -- `view::place::set_vertical` meets its contract: below 32 nothing changes.
 -- From there on the way from the top is at most that to the bottom, so the line is at most the last. Assumes nothing.
 use borrow.Author.Needs.{needs}
-use Rattle.port.specs.Codes.{setVertical}
 use Rattle.laws.proofs.Choices.{choices}
+use Rattle.port.specs.Codes.{setVertical}
 use Rattle.view.proofs.Places.{placed, clamped}
 use Rattle.view.proofs.place.set_vertical.Statement.{statement}
 use Rattle.view.proofs.place.set_vertical.Tie as tie

@@ -1,17 +1,21 @@
 //! The library behind the command line of the harness's drivers.
 //!
 //! Usage: driver STREAM ROUNDS CHUNK [dump]
+//!        driver SCRIPT ROOM
 //!
 //! Prints the nanoseconds of each round, or with `dump` the final 24
 //! lines as text. A CHUNK of 0 stands for the one-byte call. The library
 //! makes the fresh console in the same call, so that is timed as well.
+//!
+//! A SCRIPT of calls by client, with ROOM bytes for the answers, is run
+//! once and nothing is printed: it is there for counting instructions.
 
 mod clock;
 mod feed;
 mod library;
 
 use feed::Feed;
-use library::LIBRARY;
+use library::{run_script, LIBRARY};
 use std::process::exit;
 
 const BLANK: u8 = 0xA0;
@@ -23,7 +27,8 @@ fn main() {
     let done = match &arguments[..] {
         [stream, rounds, chunk] => time(stream, rounds, chunk),
         [stream, _, chunk, dump] if dump == "dump" => show(stream, chunk),
-        _ => Err("usage: driver STREAM ROUNDS CHUNK [dump]".to_string()),
+        [script, room] => make_calls(script, room),
+        _ => Err("usage: driver STREAM ROUNDS CHUNK [dump], or driver SCRIPT ROOM".to_string()),
     };
     if let Err(message) = done {
         eprintln!("{}", message);
@@ -45,6 +50,13 @@ fn show(path: &str, chunk: &str) -> Result<(), String> {
     for line in screen.chunks(COLUMNS) {
         println!("{}", line.iter().map(|&cell| letter(cell)).collect::<String>());
     }
+    Ok(())
+}
+
+/// The answers are not looked at: that would be counted too.
+fn make_calls(path: &str, room: &str) -> Result<(), String> {
+    let mut answers = vec![0; number(room)?];
+    run_script(&read(path)?, &mut [BLANK; CELLS], &mut answers);
     Ok(())
 }
 

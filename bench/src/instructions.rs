@@ -1,8 +1,10 @@
 //! Instructions by valgrind. They do not depend on the machine's load.
 
+use crate::drivers::printed;
 use crate::feed::Feed;
+use crate::script::{check, one_byte_writes, room};
 use crate::table::{number, Table};
-use crate::workloads::{all, Workload};
+use crate::workloads::{all, by_client, Workload};
 use std::fs::{create_dir_all, write};
 use std::path::Path;
 use std::process::Command;
@@ -24,13 +26,21 @@ pub fn run(folder: &str, ours: &str, plain_c: Option<&str>) -> Result<(), String
     if let Some(driver) = plain_c {
         sides.push(Side { title: "plain C console", driver, one_byte_call: 1 });
     }
-    let mut table = Table::new(&heads(&sides));
+    let folder = Path::new(folder);
+    let heads = heads(&sides);
+    let mut table = Table::new(&heads);
     for workload in all(BYTES, LINE_FEEDS) {
-        table.add(&row(Path::new(folder), &workload, &sides)?);
+        let counts: Result<Vec<f64>, String> =
+            sides.iter().map(|side| side.count(folder, &workload)).collect();
+        table.add(&row(&workload, &counts?, heads.len()));
     }
+    let workload = by_client(BYTES);
+    let count = sides[0].count_by_client(folder, &workload.stream)?;
+    table.add(&row(&workload, &[count], heads.len()));
     println!(
         "Instructions by valgrind's callgrind, one round of each workload less one round \
-         of an empty stream, so that starting the program does not count."
+         of an empty stream, so that starting the program does not count. A call by client \
+         copies the screen, 1,920 bytes, into its answer: that is counted with it."
     );
     table.print("Instructions");
     Ok(())
@@ -48,19 +58,18 @@ fn heads(sides: &[Side]) -> Vec<String> {
     heads
 }
 
-fn row(folder: &Path, workload: &Workload, sides: &[Side]) -> Result<Vec<String>, String> {
+/// A side without such a call has no count, and `-` in its cells.
+fn row(workload: &Workload, counts: &[f64], columns: usize) -> Vec<String> {
     let mut cells = vec![workload.name.clone(), workload.unit.clone()];
-    let mut counts = Vec::new();
-    for side in sides {
-        let count = side.count(folder, workload)?;
+    for count in counts {
         cells.push(number(count / workload.stream.len() as f64));
         cells.push(number(count / workload.count as f64));
-        counts.push(count);
     }
     if let [ours, plain_c] = counts[..] {
         cells.push(number(ours / plain_c));
     }
-    Ok(cells)
+    cells.resize(columns, "-".to_string());
+    cells
 }
 
 impl Side<'_> {
@@ -69,23 +78,29 @@ impl Side<'_> {
             Feed::Writes(size) => size,
             Feed::Bytes => self.one_byte_call,
         };
-        let stream = self.instructions(folder, &workload.stream, chunk)?;
-        let start = self.instructions(folder, &[], chunk)?;
+        let arguments = ["1", &chunk.to_string()];
+        let stream = self.instructions(folder, &workload.stream, &arguments)?;
+        let start = self.instructions(folder, &[], &arguments)?;
         Ok(stream - start)
     }
 
-    fn instructions(&self, folder: &Path, stream: &[u8], chunk: usize) -> Result<f64, String> {
+    /// Less the opening alone, with the same room for answers.
+    fn count_by_client(&self, folder: &Path, stream: &[u8]) -> Result<f64, String> {
+        check(stream)?;
+        let arguments = [&room(stream).to_string()[..]];
+        let calls = self.instructions(folder, &one_byte_writes(stream), &arguments)?;
+        let start = self.instructions(folder, &one_byte_writes(&[]), &arguments)?;
+        Ok(calls - start)
+    }
+
+    fn instructions(&self, folder: &Path, input: &[u8], more: &[&str]) -> Result<f64, String> {
         let path = folder.join("counted.apple");
         create_dir_all(folder)
-            .and_then(|_| write(&path, stream))
+            .and_then(|_| write(&path, input))
             .map_err(|error| format!("{}: {}", path.display(), error))?;
-        let output = Command::new("valgrind")
-            .args(["--tool=callgrind", "--callgrind-out-file=/dev/null", self.driver])
-            .arg(&path)
-            .args(["1", &chunk.to_string()])
-            .output()
-            .map_err(|error| format!("valgrind: {}", error))?;
-        let text = String::from_utf8_lossy(&output.stderr);
+        let mut command = Command::new("valgrind");
+        command.args(["--tool=callgrind", "--callgrind-out-file=/dev/null", "--log-fd=1"]);
+        let text = printed("valgrind", command.arg(self.driver).arg(&path).args(more).output())?;
         collected(&text).ok_or(format!("valgrind counted nothing: {}", text))
     }
 }

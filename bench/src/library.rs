@@ -40,6 +40,25 @@ extern "C" {
         answer: *mut u8,
         answer_length: usize,
     ) -> usize;
+
+    fn combthrift_run_script(
+        script: *const u8,
+        script_length: usize,
+        screen: *mut u8,
+        screen_length: usize,
+        answers: *mut u8,
+        answers_length: usize,
+    ) -> usize;
+}
+
+/// Runs a script on a fresh multiplexer and the lent screen. The answers
+/// go to the front of `answers`, as many as fit. Gives their length.
+pub fn run_script(script: &[u8], screen: &mut [u8], answers: &mut [u8]) -> usize {
+    let (calls, length) = (script.as_ptr(), script.len());
+    let (cells, count) = (screen.as_mut_ptr(), screen.len());
+    unsafe {
+        combthrift_run_script(calls, length, cells, count, answers.as_mut_ptr(), answers.len())
+    }
 }
 
 impl Calls {

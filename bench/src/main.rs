@@ -42,6 +42,7 @@ mod measure;
 mod own;
 mod peers;
 mod reference;
+mod script;
 mod sizes;
 mod stack;
 mod table;

@@ -46,6 +46,12 @@ pub fn all(bytes: usize, line_feeds: usize) -> Vec<Workload> {
     ]
 }
 
+/// The lines of one byte a call for calls by client. Apart from the
+/// others, as the consoles beside ours have no clients.
+pub fn by_client(bytes: usize) -> Workload {
+    text("one byte a call, by client", lines(bytes / 4), Feed::Writes(1))
+}
+
 fn numbers(workload: u64) -> Numbers {
     Numbers::new(SEED, workload)
 }

@@ -56,7 +56,7 @@ fn print_stack(object: &Object) {
     let mut table = Table::new(&texts(&["", "reserved", "touched"]));
     let touched = |feeds: &[Feed]| with_commas(deepest(feeds) as u64);
     let rows = [
-        ("console::write", "-".to_string()),
+        ("calls::write", "-".to_string()),
         ("combthrift_run_stream", touched(&[PAGE, Feed::Writes(7), Feed::Writes(1)])),
         ("combthrift_put_bytes", touched(&[Feed::Bytes])),
     ];

@@ -1,4 +1,4 @@
--- The loops that copy: one byte more, one row more, and all rows. Assumes nothing.
+-- The loops that copy: one row more, and all rows. Assumes nothing.
 use Prim.Native.Nat.{ℕ, _+_, _-_, _*_, _≤_, _<_}
 use mathlib.Core.Path.{_≡_, refl, sym, ap, _∙_}
 use mathlib.Core.Logic.{⊎-elim}

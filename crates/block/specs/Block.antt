@@ -6,7 +6,7 @@ use lib.Dec.{eqb}
 use lib.ListN.{length, take, drop, getD}
 use Rattle.laws.specs.Tabulate.{tabulate}
 use Rattle.rectangle.specs.declared.Rect.{Rect}
-use Rattle.rectangle.specs.Cells.{columnOf, lineOf, inside}
+use Rattle.rectangle.specs.Cells.{columnOf, lineOf, cellIndex, inside}
 use Rattle.rectangle.specs.Rectangles.{widthOf, heightOf}
 
 -- '2 + width x height'
@@ -15,7 +15,7 @@ blockLength r = 2 + widthOf r * heightOf r
 
 -- 'a row of a port's viewport .. by its number, 0 at the top': that stretch of the screen
 unfoldable pub rowStart : Rect → ℕ → ℕ
-rowStart r row = 80 * (r .top + row) + r .left
+rowStart r row = cellIndex (r .left) (r .top + row)
 
 unfoldable pub rowCells : Rect → ℕ → List ℕ → List ℕ
 rowCells r row s = take (widthOf r) (drop (rowStart r row) s)

@@ -1,3 +1,3 @@
--- `Calls`: what a call on a port does that is not refused before it starts. `Screens`: refusal 1, for every call that takes a screen.
+-- `Judging`: refusal 1, for every call that takes a screen, and a call that is refused before it starts. `Calls`: what a call on a port does that is not.
+pub mod Judging
 pub mod Calls
-pub mod Screens

@@ -1,4 +1,4 @@
-// The calls below their judging: what a write, a block return and a block restore do to a valid port and a screen of 1,920 bytes. `console` and `multiplexer` judge a call and make it here.
+// The calls below their judging: what a write, a block return and a block restore do to a valid port and a screen of 1,920 bytes. `console` and `multiplexer` judge a call and make it here; the one refusal that both have, of a screen, is here too.
 use block::block_fits;
 use block::block_length;
 use block::copy_in;
@@ -7,12 +7,30 @@ use executor::carry_single;
 use executor::carry_stream;
 use port::Port;
 use reply::Status;
+use screen::is_screen;
 ghost use mathlib.Core.Path.{_≡_};
 ghost use mathlib.Core.List.{[], _∷_};
 ghost use lib.ListN.{length};
 ghost use Rattle.port.specs.Valid.{Valid};
 ghost use Rattle.reply.specs.Reply.{Replies};
+ghost use Rattle.calls.specs.Judging.{screenJudgement};
 ghost use Rattle.calls.specs.Calls.{written, blockReturned, blockRestored, answerOf};
+
+// Whether a call is refused before it starts.
+pub enum Judged {
+    Accepted,
+    Refused(Status),
+}
+
+// Refusal 1, by the screen's length: of every call that takes a screen.
+pub fn screen_judgement(length: usize) -> Judged
+    ensures { λ r. ⌜ r ≡ screenJudgement length ⌝ }
+{
+    if is_screen(length) {
+        return Judged::Accepted;
+    }
+    Judged::Refused(Status::ScreenLength)
+}
 
 // What a call on a port hands back: the status, the port, and the count of bells or of bytes.
 pub struct Answer {

@@ -5,32 +5,43 @@ use mathlib.Core.Bool.{Bool, true, false, cond}
 use mathlib.Core.List.{List}
 use lib.Dec.{ltb}
 use lib.ListN.{length}
-use Rattle.laws.proofs.Tests.{by-test}
-use Rattle.screen.specs.Size.{isScreen}
+use Rattle.laws.proofs.Tests.{fails}
 use Rattle.block.specs.Block.{blockLength, blockFits}
 use Rattle.port.specs.declared.Port.{Port}
-use Rattle.port.specs.Valid.{valid, Valid}
+use Rattle.port.specs.Valid.{Valid}
 use Rattle.port.proofs.Validity.{decides-valid}
 use Rattle.reply.specs.declared.Status.the-variants.{Done, ScreenLength, Invalid, BlockTooShort, BlockMismatch}
 use Rattle.reply.specs.Reply.{refusal}
+use Rattle.calls.specs.declared.Judged.the-variants.{Accepted, Refused}
+use Rattle.calls.specs.Judging.{firstOf}
 use Rattle.calls.specs.Calls.{PortReply, PortCall, written, blockReturned, blockRestored}
-use Rattle.calls.specs.Screens.{onScreen}
-use Rattle.calls.proofs.Screens.{on-screen, off-screen}
+use Rattle.calls.proofs.Judging.{on-screen, off-screen, made, refused, by-judged}
 use Rattle.calls.proofs.Refusals.{Unchanged, written-refuses, returned-refuses, restored-refuses}
-use Rattle.console.specs.Calls.{onValidPort, judged, writeCall, returnCall, restoreCall}
+use Rattle.console.specs.Calls.{portJudgement, judgement, judged, writeCall, returnCall, restoreCall}
+
+-- 1 where there are not 1,920 cells, then 2 where the port is not valid, and else none
+module _ (p : Port) (s : List ℕ) where
+  pub judges-good : Valid p → length s ≡ 1920 → judgement p (length s) ≡ Accepted
+  unfolding judgement firstOf portJudgement
+  judges-good v len = rw (on-screen (length s) len, decides-valid p .passes v)
+
+  judges-length : (length s ≡ 1920 → ⊥) → judgement p (length s) ≡ Refused ScreenLength
+  unfolding judgement firstOf
+  judges-length no-screen = rw (off-screen (length s) no-screen)
+
+  judges-port : length s ≡ 1920 → (Valid p → ⊥) → judgement p (length s) ≡ Refused Invalid
+  unfolding judgement firstOf portJudgement
+  judges-port len bad = rw (on-screen (length s) len, fails (decides-valid p) bad)
 
 module _ (call : PortCall) (p : Port) (s block : List ℕ) where
-  -- a valid port and 1,920 cells are never refused with 1 or 2; another length is with 1, and then another port with 2
   pub accepted : Valid p → length s ≡ 1920 → judged call p s block ≡ call p s block
-  unfolding onValidPort
-  accepted v len = on-screen p s block _ len ∙ rw (decides-valid p .passes v)
+  accepted v len = made 0 p s block (call p s block) (judges-good p s v len)
 
-  pub refused-length : isScreen (length s) ≡ false → judged call p s block ≡ refusal ScreenLength p s block
-  refused-length e = off-screen p s block _ e
+  pub refused-length : (length s ≡ 1920 → ⊥) → judged call p s block ≡ refusal ScreenLength p s block
+  refused-length no-screen = refused 0 p s block (call p s block) ScreenLength (judges-length p s no-screen)
 
-  pub refused-port : length s ≡ 1920 → valid p ≡ false → judged call p s block ≡ refusal Invalid p s block
-  unfolding onValidPort
-  refused-port len k = on-screen p s block _ len ∙ rw k
+  pub refused-port : length s ≡ 1920 → (Valid p → ⊥) → judged call p s block ≡ refusal Invalid p s block
+  refused-port len bad = refused 0 p s block (call p s block) Invalid (judges-port p s len bad)
 
 status-of : (t : Bool) (a b : PortReply) → cond t a b .status ≡ cond t (a .status) (b .status)
 status-of true a b = refl
@@ -53,8 +64,7 @@ module _ (p : Port) (s block : List ℕ) (v : Valid p) (len : length s ≡ 1920)
 -- a refused call changes nothing and counts 0
 module _ (p : Port) (s block : List ℕ) where
   judged-refuses : (call : PortCall) → Unchanged p s block (call p s block) → Unchanged p s block (judged call p s block)
-  unfolding onScreen onValidPort
-  judged-refuses call h = by-test (Unchanged p s block) (isScreen (length s)) (λ _. by-test (Unchanged p s block) (valid p) (λ _. h) (λ _ e. refl)) (λ _ e. refl)
+  judged-refuses call h = by-judged 0 p s block (call p s block) (Unchanged p s block) (judgement p (length s)) (λ status _ e. refl) (λ _. h)
 
   pub write-refuses : Unchanged p s block (writeCall p s block)
   write-refuses = judged-refuses written (written-refuses p s block)

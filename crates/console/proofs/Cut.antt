@@ -4,11 +4,12 @@ use mathlib.Core.Path.{_≡_, refl, ap, _∙_}
 use mathlib.Core.Logic.{⊎-elim}
 use mathlib.Core.List.{List, _++_}
 use lib.ListN.{length}
-use Rattle.laws.proofs.Tests.{tested}
-use Rattle.screen.specs.Size.{isScreen}
+use Rattle.laws.proofs.Tests.{either}
+use Rattle.rectangle.specs.Edit.{draw}
 use Rattle.screen.proofs.Sizes.{decides-screen}
 use Rattle.port.specs.declared.Port.{Port}
-use Rattle.port.specs.Valid.{valid, Valid}
+use Rattle.port.specs.Valid.{Valid}
+use Rattle.port.specs.Stream.{stream}
 use Rattle.port.specs.Commands.{commandCodes, occurrences, waitOf}
 use Rattle.port.proofs.Validity.{decides-valid}
 use Rattle.port.proofs.Streams.{keeps-stream, stream-local}
@@ -33,17 +34,16 @@ module _ (p : Port) (s a b : List ℕ) where
   unfolding written
   both-accepted v len =
       let first = accepted written p s a v len in
-      let again = ap (λ (r : PortReply). writeCall (r .state) (r .screen) b) first ∙ accepted written _ _ b (keeps-stream p v a .valid) (stream-local p v a .len s len) in
+      let again = ap (λ (r : PortReply). writeCall (r .state) (r .screen) b) first ∙ accepted written (stream p a .port) (draw (stream p a .edits) s) b (keeps-stream p v a .valid) (stream-local p v a .len s len) in
       rw (again, first, accepted written p s (a ++ b) v len) (written-cut p s a b)
 
 -- no premise: refused or not
 pub write-cut : (p : Port) (s a b : List ℕ) → Cut p s a b
 write-cut p s a b =
     ⊎-elim
-    (λ e. let len = decides-screen (length s) .holds e in
-    ⊎-elim (λ k. both-accepted p s a b (decides-valid p .holds k) len) (λ k. both-refused p s a b Invalid (λ bytes. refused-port written p s bytes len k)) (tested (valid p)))
-    (λ e. both-refused p s a b ScreenLength (λ bytes. refused-length written p s bytes e))
-    (tested (isScreen (length s)))
+    (λ len. ⊎-elim (λ v. both-accepted p s a b v len) (λ bad. both-refused p s a b Invalid (λ bytes. refused-port written p s bytes len bad)) (either (decides-valid p)))
+    (λ no-screen. both-refused p s a b ScreenLength (λ bytes. refused-length written p s bytes no-screen))
+    (either (decides-screen (length s)))
 
 -- of any write that is not refused; a refused one counts 0
 pub write-bells : (p : Port) (s bytes : List ℕ) → Valid p → length s ≡ 1920 → writeCall p s bytes .result ≡ occurrences 7 (commandCodes (waitOf p) bytes)

@@ -10,24 +10,27 @@ use Rattle.block.specs.Block.{rowCells}
 use Rattle.port.specs.declared.Port.{Port}
 use Rattle.port.specs.State.{freshPort}
 use Rattle.port.specs.Valid.{valid}
-use Rattle.reply.specs.declared.Status.the-variants.{ScreenLength, Invalid}
-use Rattle.reply.specs.Reply.{refusal}
-use Rattle.calls.specs.Calls.{PortReply, PortCall, written, blockReturned, blockRestored}
-use Rattle.calls.specs.Screens.{onScreen}
-use Rattle.console.specs.declared.Judged.{Judged}
-use Rattle.console.specs.declared.Judged.the-variants.{Accepted, Refused}
+use Rattle.reply.specs.declared.Status.the-variants.{Invalid}
+use Rattle.calls.specs.declared.Judged.{Judged}
+use Rattle.calls.specs.declared.Judged.the-variants.{Accepted, Refused}
+use Rattle.calls.specs.Judging.{screenJudgement, firstOf, onJudged}
+use Rattle.calls.specs.Calls.{PortCall, written, blockReturned, blockRestored}
 
 -- 'a plain console starts with home (0,0,79,23)'
 abbrev pub freshConsole : Port
 freshConsole = freshPort wholeScreen
 
--- 2 if 'the port .. handed in is not sound', and else the reply
-unfoldable pub onValidPort : Port → List ℕ → List ℕ → PortReply → PortReply
-onValidPort p s block reply = cond (valid p) reply (refusal Invalid p s block)
+-- 2 if 'the port .. handed in is not sound'
+unfoldable pub portJudgement : Port → Judged
+portJudgement p = cond (valid p) Accepted (Refused Invalid)
 
--- a call that takes a screen: 1, then 2, and else what it does
+-- 1 before it, of a call that takes a screen
+unfoldable pub judgement : Port → ℕ → Judged
+judgement p size = firstOf (screenJudgement size) (portJudgement p)
+
+-- a plain call: 1, then 2, and else what it does
 abbrev pub judged : PortCall → PortCall
-judged call p s block = onScreen p s block (onValidPort p s block (call p s block))
+judged call p s block = onJudged 0 (judgement p (length s)) p s block (call p s block)
 
 -- the three calls
 abbrev pub writeCall : PortCall
@@ -43,10 +46,3 @@ restoreCall = judged blockRestored
 unfoldable pub rowCall : Port → List ℕ → ℕ → List ℕ
 rowCall p s row =
     cond ((isScreen (length s) && valid p) && ltb row (heightOf (p .view .viewport))) (rowCells (p .view .viewport) row s) []
-
--- the same refusals as the code finds them, before a call starts: 2, and 1 before it
-unfoldable pub portJudgement : Port → Judged
-portJudgement p = cond (valid p) Accepted (Refused Invalid)
-
-unfoldable pub judgement : Port → ℕ → Judged
-judgement p size = cond (isScreen size) (portJudgement p) (Refused ScreenLength)

@@ -2,14 +2,15 @@
 // A call is judged here and made in `calls`.
 use block::row_cells;
 use calls::Answer;
+use calls::Judged;
 use calls::answer_of;
+use calls::screen_judgement;
 use port::Port;
 use port::state::fresh_port;
 use port::valid::valid_port;
 use rectangle::Rect;
 use rectangle::height;
 use reply::Status;
-use screen::is_screen;
 use screen::no_cells;
 ghost use mathlib.Core.Path.{_≡_};
 ghost use mathlib.Core.List.{[], _∷_};
@@ -29,12 +30,6 @@ pub fn fresh_console() -> Port
     })
 }
 
-// Whether a call is refused before it starts.
-enum Judged {
-    Accepted,
-    Refused(Status),
-}
-
 // Refusal 2.
 fn judge_port(p: Port) -> Judged
     ensures { λ r. ⌜ r ≡ portJudgement p ⌝ }
@@ -45,14 +40,15 @@ fn judge_port(p: Port) -> Judged
     Judged::Refused(Status::Invalid)
 }
 
-// Refusal 1 before it, by the screen's length.
+// Refusal 1 before it.
 fn judge(p: Port, length: usize) -> Judged
     ensures { λ r. ⌜ r ≡ judgement p length ⌝ }
 {
-    if is_screen(length) {
-        return judge_port(p);
+    let on_screen = screen_judgement(length);
+    match on_screen {
+        Judged::Refused(status) => Judged::Refused(status),
+        Judged::Accepted => judge_port(p),
     }
-    Judged::Refused(Status::ScreenLength)
 }
 
 // Obeys a stream: each byte does what paper 01's tables say. The count is of the bells that it rang.

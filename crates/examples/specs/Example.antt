@@ -1,5 +1,5 @@
 -- What an example of paper 01 states: all 1,920 cells, viewport, cursor and bells. Assumes nothing.
-use Prim.Native.Nat.{ℕ, _+_, _*_, _<_}
+use Prim.Native.Nat.{ℕ, _<_}
 use mathlib.Core.Path.{_≡_}
 use mathlib.Core.Bool.{cond}
 use mathlib.Core.List.{List, [], _∷_}
@@ -7,6 +7,7 @@ use lib.Dec.{eqb}
 use lib.ListN.{length, getD}
 use Rattle.laws.specs.Tabulate.{tabulate}
 use Rattle.rectangle.specs.declared.Rect.{Rect}
+use Rattle.rectangle.specs.Cells.{cellIndex}
 use Rattle.reply.specs.declared.Status.the-variants.{Done}
 use Rattle.calls.specs.Calls.{PortReply}
 use Rattle.console.specs.Calls.{freshConsole, writeCall}
@@ -41,7 +42,7 @@ after e = writeCall (before e .state) (before e .screen) (e .bytes)
 -- the byte that cell i is named to hold, or else the one that it held
 abbrev pub named : List Cell → ℕ → ℕ → ℕ
 named [] i held = held
-named (c ∷ cs) i held = cond (eqb i (80 * c .line + c .column)) (c .byte) (named cs i held)
+named (c ∷ cs) i held = cond (eqb i (cellIndex (c .column) (c .line))) (c .byte) (named cs i held)
 
 -- what the example says of the replies to the scene and to its own bytes
 pub record Shows (e : Example) (scene shown : PortReply) : Type 0 where

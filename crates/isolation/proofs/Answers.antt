@@ -9,24 +9,22 @@ use lib.ListN.{length}
 use Rattle.laws.proofs.Tests.{tested, not-both, below?, Decides, decides-le, decides-lt, decides-eq, decides-both, decides-as}
 use Rattle.rectangle.specs.declared.Rect.{Rect}
 use Rattle.rectangle.proofs.Rectangles.{decides-legal}
-use Rattle.screen.proofs.Sizes.{decides-screen}
 use Rattle.block.specs.Block.{blockLength, blockFits}
 use Rattle.reply.specs.declared.Status.{Status}
 use Rattle.reply.specs.declared.Status.the-variants.{ScreenLength, Invalid, ClientZero, PaneIllegal, ClientTaken, PaneShared, Full, NotOpen, BlockTooShort, BlockMismatch}
 use Rattle.calls.specs.Calls.{PortReply, PortCall, written, blockReturned, blockRestored}
-use Rattle.calls.specs.Screens.{onScreen}
 use Rattle.slots.specs.declared.Multiplexer.{Multiplexer}
 use Rattle.slots.specs.State.{slotAt, Open, Free, Closed, slotOf}
 use Rattle.slots.specs.Valid.{ValidMultiplexer}
 use Rattle.slots.proofs.Validity.{decides-multiplexer}
 use Rattle.slots.proofs.Slots.{decides-client, slot-client, slot-found, slot-open}
-use Rattle.multiplexer.specs.Located.{clientSlot, freeSlotFor, claimSlot}
-use Rattle.multiplexer.specs.Calls.{MultiplexerReply, onSlot, onClient, writeCall, returnCall, restoreCall, opened, openCall, closed, closeCall}
+use Rattle.multiplexer.specs.Located.{clientSlot, freeSlotFor, claimSlot, locatedOn}
+use Rattle.multiplexer.specs.Calls.{MultiplexerReply, onSlot, onClient, writeCall, returnCall, restoreCall, openedAt, openCall, closedAt, closeCall}
 use Rattle.multiplexer.proofs.Claims.{decides-pane-shared}
-use Rattle.multiplexer.proofs.Replying.{slotStatus}
+use Rattle.multiplexer.proofs.Replying.{slotStatus, by-screen}
 use Rattle.isolation.specs.Laws.{viewport, Fits, Applies, Exactly, Statuses, ValidStatuses, GoesTo, SlotStatuses}
 use Rattle.isolation.proofs.Rules.{First, spared, refused-if, refused-unless, refused-not, answers-first}
-use Rattle.isolation.proofs.Rules.First.{none}
+use Rattle.isolation.proofs.Rules.First.{none, here, later}
 
 decides-fits : (r : Rect) (block : List ℕ) → Decides (blockFits r block) (Fits r block)
 unfolding blockFits
@@ -39,9 +37,6 @@ decides-full m =
     (λ full. ⊎-elim (λ h. absurd (full (slotOf m 0) (h, slot-client m 0 h))) (λ h. h) (below? (slotOf m 0) 4))
 
 -- the status of a reply
-abbrev replied : MultiplexerReply → Status
-replied x = x .status
-
 abbrev port-replied : PortReply → Status
 port-replied x = x .status
 
@@ -58,29 +53,23 @@ module _ (m : Multiplexer) (s : List ℕ) (n : ℕ) (r : Rect) (block : List ℕ
     mismatched = of-slot (λ q. Fits q block → ⊥)
 
   -- ---- the five calls
-  -- the slot of an open client: 2, 8, and then what the reply there gives
+  -- a call for an open client: 2, 8, and then what the reply at its slot gives
   client-first : (s′ block′ : List ℕ) (reply : ℕ → MultiplexerReply) {xs : List Status}
       → (ValidMultiplexer m → (i : ℕ) → Open m i → slotAt m i .client ≡ n → First (Applies m s n r block) (reply i .status) xs)
-      → First (Applies m s n r block) (onSlot m s′ block′ (clientSlot m n) reply .status) (Invalid ∷ NotOpen ∷ xs)
+      → First (Applies m s n r block) (slotStatus m s′ block′ reply (clientSlot m n)) (Invalid ∷ NotOpen ∷ xs)
   unfolding clientSlot onSlot
   client-first s′ block′ reply rest =
       refused-not (slotStatus m s′ block′ reply) (decides-multiplexer m) (λ k. k) (λ p k. k p) refl λ v.
       refused-not (slotStatus m s′ block′ reply) (decides-client m n) (λ k i o e. k (i, o, e)) (λ k closed. closed (k .0) (k .1) (k .2)) refl λ k.
       rw (slot-open m v (k .0) n (k .1) (k .2)) (rest v (k .0) (k .1) (k .2))
 
-  -- a call that takes a screen: 1 before the rest
-  screen-first : (block′ : List ℕ) (reply : MultiplexerReply) {xs : List Status} → (length s ≡ 1920 → First (Applies m s n r block) (reply .status) xs)
-      → First (Applies m s n r block) (onScreen m s block′ reply .status) (ScreenLength ∷ xs)
-  unfolding onScreen
-  screen-first block′ reply rest = refused-unless replied (decides-screen (length s)) (λ k. k) (λ p k. k p) refl rest
-
-  -- a call on a client's port: 1, 2, 8, and then what the call on the port gives
+  -- a call on a client's port that takes a screen: 1 before the rest, and after it what the call on the port gives
   call-first : (call : PortCall) {xs : List Status} → ((i : ℕ) → GoesTo m s n i → First (Applies m s n r block) (call (slotAt m i .port) s block .status) xs)
-      → First (Applies m s n r block) (onScreen m s block (onClient call m s n block) .status) (ScreenLength ∷ Invalid ∷ NotOpen ∷ xs)
-  call-first call rest =
-      screen-first block _ λ l.
-      client-first s block _ λ v i o e.
-      rest i (record { valid = v; len = l; is-open = o; client = e })
+      → First (Applies m s n r block) (onClient call (locatedOn (length s) (clientSlot m n)) m s block .status) (ScreenLength ∷ Invalid ∷ NotOpen ∷ xs)
+  call-first call {xs} rest =
+      by-screen m s block _ (λ x. First (Applies m s n r block) x (ScreenLength ∷ Invalid ∷ NotOpen ∷ xs)) (clientSlot m n) (λ no-screen. here no-screen refl)
+      λ l. later (λ k. k l)
+      (client-first s block _ λ v i o e. rest i (record { valid = v; len = l; is-open = o; client = e }))
 
   write-first : First (Applies m s n r block) (writeCall m s n block .status) (ScreenLength ∷ Invalid ∷ NotOpen ∷ [])
   unfolding written
@@ -101,19 +90,23 @@ module _ (m : Multiplexer) (s : List ℕ) (n : ℕ) (r : Rect) (block : List ℕ
       none refl
 
   close-first : First (Applies m s n r block) (closeCall m n .status) (Invalid ∷ NotOpen ∷ [])
-  close-first = client-first [] [] (closed m) (λ v i o e. none refl)
+  close-first = client-first [] [] (closedAt m) (λ v i o e. none refl)
+
+  claim-first : First (Applies m s n r block) (slotStatus m s [] (openedAt m s n r) (claimSlot m n r)) (Invalid ∷ ClientZero ∷ PaneIllegal ∷ ClientTaken ∷ PaneShared ∷ Full ∷ [])
+  unfolding claimSlot freeSlotFor onSlot
+  claim-first =
+      refused-not (slotStatus m s [] (openedAt m s n r)) (decides-multiplexer m) (λ k. k) (λ p k. k p) refl λ v.
+      refused-if (slotStatus m s [] (openedAt m s n r)) (decides-eq n 0) refl λ _.
+      refused-not (slotStatus m s [] (openedAt m s n r)) (decides-legal r) (λ k. k) (λ p k. k p) refl λ legal.
+      refused-if (slotStatus m s [] (openedAt m s n r)) (decides-client m n) refl λ _.
+      refused-if (slotStatus m s [] (openedAt m s n r)) (decides-pane-shared m v r legal) refl λ _.
+      refused-if (slotStatus m s [] (openedAt m s n r)) (decides-full m) refl λ _.
+      none refl
 
   open-first : First (Applies m s n r block) (openCall m s n r .status) (ScreenLength ∷ Invalid ∷ ClientZero ∷ PaneIllegal ∷ ClientTaken ∷ PaneShared ∷ Full ∷ [])
-  unfolding claimSlot freeSlotFor onSlot
   open-first =
-      screen-first [] _ λ _.
-      refused-not (slotStatus m s [] (opened m s n r)) (decides-multiplexer m) (λ k. k) (λ p k. k p) refl λ v.
-      refused-if (slotStatus m s [] (opened m s n r)) (decides-eq n 0) refl λ _.
-      refused-not (slotStatus m s [] (opened m s n r)) (decides-legal r) (λ k. k) (λ p k. k p) refl λ legal.
-      refused-if (slotStatus m s [] (opened m s n r)) (decides-client m n) refl λ _.
-      refused-if (slotStatus m s [] (opened m s n r)) (decides-pane-shared m v r legal) refl λ _.
-      refused-if (slotStatus m s [] (opened m s n r)) (decides-full m) refl λ _.
-      none refl
+      by-screen m s [] (openedAt m s n r) (λ x. First (Applies m s n r block) x (ScreenLength ∷ Invalid ∷ ClientZero ∷ PaneIllegal ∷ ClientTaken ∷ PaneShared ∷ Full ∷ [])) (claimSlot m n r)
+      (λ no-screen. here no-screen refl) (λ l. later (λ k. k l) claim-first)
 
   pub statuses : Statuses m s n r block
   statuses = record {
@@ -126,16 +119,16 @@ module _ (m : Multiplexer) (s : List ℕ) (n : ℕ) (r : Rect) (block : List ℕ
 
   -- where 1 and 2 do not apply
   module _ (v : ValidMultiplexer m) (l : length s ≡ 1920) where
-    on-screen : {given : Status} {xs : List Status} → First (Applies m s n r block) given (ScreenLength ∷ Invalid ∷ xs) → First (Applies m s n r block) given xs
-    on-screen f = spared (λ k. k v) (spared (λ k. k l) f)
+    with-screen : {given : Status} {xs : List Status} → First (Applies m s n r block) given (ScreenLength ∷ Invalid ∷ xs) → First (Applies m s n r block) given xs
+    with-screen f = spared (λ k. k v) (spared (λ k. k l) f)
 
     pub valid-statuses : ValidStatuses m s n r block
     valid-statuses = record {
-      opening = answers-first (omega arith) (on-screen open-first);
+      opening = answers-first (omega arith) (with-screen open-first);
       closing = answers-first (omega arith) (spared (λ k. k v) close-first);
-      writing = answers-first (omega arith) (on-screen write-first);
-      returning = answers-first (omega arith) (on-screen return-first);
-      restoring = answers-first (omega arith) (on-screen restore-first);
+      writing = answers-first (omega arith) (with-screen write-first);
+      returning = answers-first (omega arith) (with-screen return-first);
+      restoring = answers-first (omega arith) (with-screen restore-first);
     }
 
 -- ---- at an open slot

@@ -19,7 +19,7 @@ use Rattle.port.specs.declared.Port.{Port}
 use Rattle.port.specs.Valid.{Valid}
 use Rattle.port.proofs.Streams.{keeps-stream, stream-local}
 use Rattle.calls.specs.Calls.{PortReply, written, blockReturned, blockRestored}
-use Rattle.isolation.specs.Isolation.{Kind, portCall}
+use Rattle.isolation.specs.Isolation.{Kind, callOnPort}
 use Rattle.isolation.specs.Isolation.Kind.{Write, Return, Restore}
 
 pub record Keeps (p : Port) (s : List ℕ) (r : PortReply) : Type 0 where
@@ -48,7 +48,7 @@ module _ (p : Port) (v : Valid p) where
   restore-local : (block : List ℕ) → Local (p .home) (restored (p .view .viewport) block)
   restore-local = restored-local (p .view .viewport) (p .home) (v .view .within) (v .home .right-in) (v .home .bottom-in)
 
-  pub keeps-call : (kind : Kind) (s : List ℕ) → length s ≡ 1920 → Keeps p s (portCall kind p s)
+  pub keeps-call : (kind : Kind) (s : List ℕ) → length s ≡ 1920 → Keeps p s (callOnPort kind p s)
   unfolding written blockReturned blockRestored
   keeps-call (Write bytes) s l =
       let k = keeps-stream p v bytes in
@@ -61,7 +61,7 @@ module _ (p : Port) (v : Valid p) where
       (λ _. record { valid = v; home = refl; len = restore-local block .len s l; outside = restore-local block .outside s l })
       (λ _. idle s _ l refl refl)
 
-  pub alike-call : (kind : Kind) (s t : List ℕ) → length s ≡ 1920 → length t ≡ 1920 → Agree (p .home) s t → Alike (p .home) (portCall kind p s) (portCall kind p t)
+  pub alike-call : (kind : Kind) (s t : List ℕ) → length s ≡ 1920 → length t ≡ 1920 → Agree (p .home) s t → Alike (p .home) (callOnPort kind p s) (callOnPort kind p t)
   unfolding written blockReturned blockRestored
   alike-call (Write bytes) s t l l′ agree =
       other-cells (p .home) (written p s bytes) _ (stream-local p v bytes .same s t l l′ agree)

@@ -4,7 +4,7 @@ use mathlib.Core.Path.{_≡_, refl, ap, _∙_}
 use mathlib.Core.Logic.{_⊎_, inl, inr, ⊎-elim}
 use mathlib.Core.List.{List, _++_}
 use lib.ListN.{length}
-use Rattle.laws.proofs.Tests.{either, fails}
+use Rattle.laws.proofs.Tests.{either}
 use Rattle.screen.proofs.Sizes.{decides-screen}
 use Rattle.port.specs.Commands.{commandCodes, occurrences, waitOf}
 use Rattle.reply.specs.declared.Status.{Status}
@@ -12,7 +12,6 @@ use Rattle.reply.specs.declared.Status.the-variants.{ScreenLength, Invalid, Not
 use Rattle.reply.specs.Reply.{refusal}
 use Rattle.reply.specs.Laws.{SameCut}
 use Rattle.calls.specs.Calls.{PortReply}
-use Rattle.calls.proofs.Screens.{on-screen, off-screen}
 use Rattle.calls.proofs.Cut.{written-cut, written-bells}
 use Rattle.slots.specs.declared.Multiplexer.{Multiplexer}
 use Rattle.slots.specs.State.{slotAt, withPort}
@@ -22,7 +21,7 @@ use Rattle.slots.proofs.Slots.{client?}
 use Rattle.multiplexer.specs.Located.{clientSlot}
 use Rattle.multiplexer.specs.Calls.{MultiplexerReply, relayed, writeCall}
 use Rattle.multiplexer.proofs.Clients.{goes-nowhere, invalid-refused}
-use Rattle.multiplexer.proofs.Replying.{at-refusal}
+use Rattle.multiplexer.proofs.Replying.{located-on, located-off, at-refusal}
 use Rattle.isolation.specs.Isolation.{serve}
 use Rattle.isolation.specs.Isolation.Kind.{Write}
 use Rattle.isolation.specs.Laws.{GoesTo}
@@ -38,11 +37,11 @@ refused-or-goes m s n =
     (λ l. ⊎-elim
     (λ (v : ValidMultiplexer m). ⊎-elim
     (λ k. inr (k .0, record { valid = v; len = l; is-open = k .1; client = k .2 }))
-    (λ h. inl (NotOpen, λ bytes. on-screen m s bytes _ l ∙ at-refusal m s bytes (clientSlot m n) _ NotOpen (goes-nowhere m n v h)))
+    (λ h. inl (NotOpen, λ bytes. at-refusal m s bytes _ _ NotOpen (located-on s (clientSlot m n) l ∙ goes-nowhere m n v h)))
     (client? m n))
-    (λ w. inl (Invalid, λ bytes. on-screen m s bytes _ l ∙ at-refusal m s bytes (clientSlot m n) _ Invalid (invalid-refused m n w)))
+    (λ w. inl (Invalid, λ bytes. at-refusal m s bytes _ _ Invalid (located-on s (clientSlot m n) l ∙ invalid-refused m n w)))
     (either (decides-multiplexer m)))
-    (λ l. inl (ScreenLength, λ bytes. off-screen m s bytes _ (fails (decides-screen (length s)) l)))
+    (λ l. inl (ScreenLength, λ bytes. at-refusal m s bytes _ _ ScreenLength (located-off s (clientSlot m n) l)))
     (either (decides-screen (length s)))
 
 relayed-cut : (m : Multiplexer) (i : ℕ) {x y z : PortReply} → SameCut x y z → SameCut (relayed m i x) (relayed m i y) (relayed m i z)

@@ -17,7 +17,7 @@ use Rattle.slots.specs.declared.Multiplexer.{Multiplexer}
 use Rattle.slots.specs.State.{slotAt, pane, Open}
 use Rattle.slots.specs.Valid.{ValidMultiplexer}
 use Rattle.slots.proofs.Slots.{slot-set}
-use Rattle.isolation.specs.Isolation.{Call, portCall, serve, answerOf, serveAll, standalone, callsOf, answersTo}
+use Rattle.isolation.specs.Isolation.{Call, callOnPort, serve, answerFrom, serveAll, standalone, callsOf, answersTo}
 use Rattle.isolation.proofs.Consoles.{keeps-call, alike-call}
 use Rattle.isolation.proofs.Serving.{goes-to, frame}
 
@@ -39,12 +39,12 @@ module _ (i n : ℕ) (small : i < 4) (is-open : n ≡ 0 → ⊥) where
     port-valid = rw e at (v .ports i here)
 
     reply : PortReply
-    reply = portCall (c .kind) p t
+    reply = callOnPort (c .kind) p t
 
     record Own : Type 0 where
       slot : slotAt (serve m s c .state) i ≡ record { client = n; port = reply .state }
       cells : Agree (p .home) (serve m s c .screen) (reply .screen)
-      answer : answerOf (serve m s c) ≡ answerOf reply
+      answer : answerFrom (serve m s c) ≡ answerFrom reply
 
     -- a call of this client
     own : c .client ≡ n → Own

@@ -19,7 +19,7 @@ use Rattle.slots.specs.Valid.{validMultiplexer, ValidMultiplexer}
 use Rattle.slots.proofs.Validity.{decides-multiplexer}
 use Rattle.slots.proofs.Slots.{client?}
 use Rattle.multiplexer.specs.Calls.{MultiplexerReply}
-use Rattle.isolation.specs.Isolation.{Call, Server, serve, ServesCalls, answerOf, serveAll, callsOf, answersTo, notOpen, Isolated, Isolation}
+use Rattle.isolation.specs.Isolation.{Call, Server, serve, ServesCalls, answerFrom, serveAll, callsOf, answersTo, notOpen, Isolated, Isolation}
 use Rattle.isolation.proofs.Following.{Follows, follows}
 use Rattle.isolation.proofs.Serving.{SameLabels, turned-away, frame}
 
@@ -58,7 +58,7 @@ stays (c ∷ cs) m s v l =
       answers-8 = λ n h.
           let others = rest .answers-8 n (closed-same next m (f .labels) n h) in
           ⊎-elim
-          (λ q. rw q (ap₂ _∷_ (ap answerOf (turned-away m s c v l (rw (eqb-true (c .client) n q) h))) others))
+          (λ q. rw q (ap₂ _∷_ (ap answerFrom (turned-away m s c v l (rw (eqb-true (c .client) n q) h))) others))
           (λ q. rw q others)
           (tested (eqb (c .client) n));
     }
@@ -168,7 +168,7 @@ isolation = record {
 pub record Serves (r q : MultiplexerReply) : Type 0 where
   pub state : r .state ≡ q .state
   pub screen : r .screen ≡ q .screen
-  pub answer : answerOf r ≡ answerOf q
+  pub answer : answerFrom r ≡ answerFrom q
 
 pub only-serve : (f : Server) → Isolation f → (m : Multiplexer) (s : List ℕ) (c : Call) → validMultiplexer m ≡ true → length s ≡ 1920 → Serves (f m s c) (serve m s c)
 unfolding serveAll answersTo
@@ -176,7 +176,7 @@ only-serve f d m s c v l =
     let cs : List Call = c ∷ [] in
     let a = d .isolated m s cs v l in
     let b = each-isolated m s cs v l in
-    let one : answerOf (f m s c) ∷ [] ≡ answerOf (serve m s c) ∷ [] = rw (eq-eqb (c .client) (c .client) refl) at (ends-answers f serve m s cs cs a b (λ n. refl) (c .client)) in
+    let one : answerFrom (f m s c) ∷ [] ≡ answerFrom (serve m s c) ∷ [] = rw (eq-eqb (c .client) (c .client) refl) at (ends-answers f serve m s cs cs a b (λ n. refl) (c .client)) in
     record {
       state = ends-multiplexer f serve m s cs cs a b (λ n. refl);
       screen = ends-screen f serve m s cs cs a b (λ n. refl);

@@ -2,28 +2,23 @@
 use Prim.Native.Nat.{ℕ, _<_}
 use native.Mathlib.Omega.{arith}
 use mathlib.Core.Path.{_≡_, refl, _∙_}
-use mathlib.Core.Logic.{⊎-elim}
 use mathlib.Core.List.{List, []}
 use lib.ListN.{length, getD}
-use Rattle.laws.proofs.Tests.{tested}
 use Rattle.rectangle.specs.declared.Rect.{Rect}
 use Rattle.rectangle.specs.declared.Motion.the-variants.{Clear}
 use Rattle.rectangle.specs.Cells.{Inside}
 use Rattle.rectangle.proofs.Edits.{cell-vacated}
 use Rattle.rectangle.proofs.Local.{edited-at, edit-local}
-use Rattle.screen.specs.Size.{isScreen}
-use Rattle.screen.proofs.Sizes.{decides-screen}
 use Rattle.port.proofs.Validity.{fresh-valid}
-use Rattle.calls.proofs.Screens.{on-screen, off-screen}
+use Rattle.calls.proofs.Refusals.{Unchanged}
 use Rattle.slots.specs.declared.Multiplexer.{Multiplexer}
 use Rattle.slots.specs.State.{slotAt, Open, slotOf, freshSlot}
 use Rattle.slots.specs.Valid.{ValidMultiplexer}
 use Rattle.slots.proofs.Slots.{slot-client, slot-first, slot-set, slot-kept, set-valid}
 use Rattle.multiplexer.specs.Located.{claimSlot}
-use Rattle.multiplexer.specs.Calls.{MultiplexerReply, onSlot, opened, openCall}
+use Rattle.multiplexer.specs.Calls.{MultiplexerReply, openedAt, openCall}
 use Rattle.multiplexer.proofs.Claims.{Claims, claims, claims-lowest}
-use Rattle.multiplexer.proofs.Replying.{at-slot, by-slot}
-use Rattle.isolation.proofs.Refusals.{Unchanged, screen-refuses}
+use Rattle.multiplexer.proofs.Replying.{located-on, located-at, at-slot, by-slot}
 
 pub record Opening (m : Multiplexer) (s : List ℕ) (n : ℕ) (r : Rect) (reply : MultiplexerReply) : Type 0 where
   pub valid : ValidMultiplexer (reply .state)
@@ -39,8 +34,8 @@ pub record Opening (m : Multiplexer) (s : List ℕ) (n : ℕ) (r : Rect) (reply 
   pub outside : (k : ℕ) → (Inside r k → ⊥) → getD (reply .screen) k 0 ≡ getD s k 0
 
 -- an opening on 1,920 cells that none of 2 to 7 refuses
-pub opens : (m : Multiplexer) (s : List ℕ) (n : ℕ) (r : Rect) → length s ≡ 1920 → Claims m n r → openCall m s n r ≡ opened m s n r (slotOf m 0)
-opens m s n r len o = on-screen m s [] _ len ∙ at-slot m s [] _ _ (slotOf m 0) (claims-lowest m n r o)
+pub opens : (m : Multiplexer) (s : List ℕ) (n : ℕ) (r : Rect) → length s ≡ 1920 → Claims m n r → openCall m s n r ≡ openedAt m s n r (slotOf m 0)
+opens m s n r len o = at-slot m s [] (openedAt m s n r) _ (slotOf m 0) (located-on s (claimSlot m n r) len ∙ claims-lowest m n r o)
 
 pub opened-leaves : (m : Multiplexer) (s : List ℕ) (n : ℕ) (r : Rect) → length s ≡ 1920 → Claims m n r → Opening m s n r (openCall m s n r)
 opened-leaves m s n r len o =
@@ -63,15 +58,12 @@ opened-leaves m s n r len o =
 
 -- an opening that is refused changes nothing
 pub open-refuses : (m : Multiplexer) (s : List ℕ) (n : ℕ) (r : Rect) → Unchanged m s [] (openCall m s n r)
-open-refuses m s n r = screen-refuses m s [] _ (by-slot (Unchanged m s []) m s [] (claimSlot m n r) (opened m s n r) (λ status _ e. refl) (λ i _ e. absurd (e refl)))
+open-refuses m s n r = by-slot m s [] (openedAt m s n r) (Unchanged m s []) _ (λ status _ e. refl) (λ i _ e. absurd (e refl))
 
 -- every opening, refused or not, leaves a valid multiplexer
 pub open-valid : (m : Multiplexer) (s : List ℕ) (n : ℕ) (r : Rect) → ValidMultiplexer m → ValidMultiplexer (openCall m s n r .state)
 open-valid m s n r v =
-    ⊎-elim
-    (λ e. let len = decides-screen (length s) .holds e in
-    rw (on-screen m s [] (onSlot m s [] (claimSlot m n r) (opened m s n r)) len)
-    (by-slot (λ (x : MultiplexerReply). ValidMultiplexer (x .state)) m s [] (claimSlot m n r) (opened m s n r) (λ status _. v)
-    (λ i k. let c = claims m n r i k in rw (c .1) (rw (opens m s n r len (c .0)) at (opened-leaves m s n r len (c .0) .valid)))))
-    (λ e. rw (off-screen m s [] _ e) v)
-    (tested (isScreen (length s)))
+    by-slot m s [] (openedAt m s n r) (λ (x : MultiplexerReply). ValidMultiplexer (x .state)) _ (λ status _. v)
+    (λ i k. let a = located-at s (claimSlot m n r) i k in
+    let c = claims m n r i (a .1) in
+    rw (c .1) (rw (opens m s n r (a .0) (c .0)) at (opened-leaves m s n r (a .0) (c .0) .valid)))

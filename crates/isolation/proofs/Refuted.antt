@@ -20,7 +20,7 @@ use Rattle.slots.specs.declared.Slot.{Slot}
 use Rattle.slots.specs.State.{freeSlot, slotAt, slotOf}
 use Rattle.slots.proofs.Validity.{decides-multiplexer}
 use Rattle.multiplexer.specs.Calls.{MultiplexerReply, relayed}
-use Rattle.isolation.specs.Isolation.{Kind, Call, callBy, lentBlock, portCall, Answer, Server, serve, ServesCalls, serveAll, standalone, callsOf, answersTo, Isolation}
+use Rattle.isolation.specs.Isolation.{Kind, Call, callBy, lentBlock, callOnPort, Answer, Server, serve, ServesCalls, serveAll, standalone, callsOf, answersTo, Isolation}
 use Rattle.isolation.specs.Isolation.Kind.{Write, Return, Restore}
 use Rattle.isolation.proofs.Serving.{goes-to}
 use Rattle.isolation.proofs.Isolation.{serves-calls}
@@ -28,7 +28,7 @@ use Rattle.isolation.proofs.Instance.{blankScreen, blank-length, pair, 
 
 -- the call, on slot i whatever its client
 abbrev onPlace : ℕ → Server
-onPlace i m s c = relayed m i (portCall (c .kind) (slotAt m i .port) s)
+onPlace i m s c = relayed m i (callOnPort (c .kind) (slotAt m i .port) s)
 
 -- a write of $0F, inverse text, and one of nothing
 inverts : ℕ → List Call

@@ -9,12 +9,12 @@ use Rattle.slots.specs.declared.Multiplexer.{Multiplexer}
 use Rattle.slots.specs.State.{slotAt, withPort}
 use Rattle.slots.proofs.Slots.{slot-set}
 use Rattle.multiplexer.specs.Calls.{MultiplexerReply, relayed}
-use Rattle.isolation.specs.Isolation.{Kind, callBy, portCall, serve}
+use Rattle.isolation.specs.Isolation.{Kind, callBy, callOnPort, serve}
 use Rattle.isolation.specs.Laws.{GoesTo}
 use Rattle.isolation.proofs.Serving.{goes-to, frame}
 
 module _ {m : Multiplexer} {s : List ℕ} {n i : ℕ} (g : GoesTo m s n i) where
-  pub one-call : (kind : Kind) → serve m s (callBy n kind) ≡ relayed m i (portCall kind (slotAt m i .port) s)
+  pub one-call : (kind : Kind) → serve m s (callBy n kind) ≡ relayed m i (callOnPort kind (slotAt m i .port) s)
   one-call kind = goes-to m s (callBy n kind) (g .valid) (g .len) i (g .is-open) (g .client)
 
   -- a second port in the slot
@@ -29,9 +29,9 @@ module _ {m : Multiplexer} {s : List ℕ} {n i : ℕ} (g : GoesTo m s n i) where
 
 pub next-call : {m : Multiplexer} {s : List ℕ} {n i : ℕ} (g : GoesTo m s n i) (first second : Kind)
     → serve (serve m s (callBy n first) .state) (serve m s (callBy n first) .screen) (callBy n second)
-    ≡ relayed m i (portCall second (portCall first (slotAt m i .port) s .state) (portCall first (slotAt m i .port) s .screen))
+    ≡ relayed m i (callOnPort second (callOnPort first (slotAt m i .port) s .state) (callOnPort first (slotAt m i .port) s .screen))
 next-call {m} {s} {n} {i} g first second =
-    let x : PortReply = portCall first (slotAt m i .port) s in
+    let x : PortReply = callOnPort first (slotAt m i .port) s in
     one-call (still-goes g first) second
-    ∙ ap (λ (r : MultiplexerReply). relayed (r .state) i (portCall second (slotAt (r .state) i .port) (r .screen))) (one-call g first)
-    ∙ relayed-again g (x .state) (λ (q : Port). portCall second q (x .screen))
+    ∙ ap (λ (r : MultiplexerReply). relayed (r .state) i (callOnPort second (slotAt (r .state) i .port) (r .screen))) (one-call g first)
+    ∙ relayed-again g (x .state) (λ (q : Port). callOnPort second q (x .screen))

@@ -4,22 +4,22 @@ use mathlib.Core.Path.{_≡_, refl, sym, ap, _∙_}
 use mathlib.Core.Logic.{⊎-elim}
 use mathlib.Core.List.{List}
 use lib.ListN.{length, getD}
+use Rattle.laws.proofs.Tests.{by-test}
 use Rattle.rectangle.specs.Cells.{Inside}
 use Rattle.port.specs.declared.Port.{Port}
 use Rattle.port.specs.Valid.{Valid}
 use Rattle.reply.specs.declared.Status.the-variants.{NotOpen}
 use Rattle.reply.specs.Reply.{refusal}
-use Rattle.calls.proofs.Screens.{on-screen}
 use Rattle.slots.specs.declared.Slot.{Slot}
 use Rattle.slots.specs.declared.Multiplexer.{Multiplexer}
 use Rattle.slots.specs.State.{slotAt, pane, Open, withPort, Closed}
 use Rattle.slots.specs.Valid.{ValidMultiplexer}
 use Rattle.slots.proofs.Slots.{client?, slot-kept, at-place, set-valid}
-use Rattle.multiplexer.specs.Calls.{MultiplexerReply, relayed}
+use Rattle.multiplexer.specs.Located.{clientSlot}
+use Rattle.multiplexer.specs.Calls.{MultiplexerReply, onSlot, relayed}
 use Rattle.multiplexer.proofs.Clients.{goes-to-slot, goes-nowhere}
-use Rattle.multiplexer.proofs.Replying.{at-slot, at-refusal}
-use Rattle.isolation.specs.Isolation.{Kind, Call, lentBlock, portCall, onClientSlot, serve}
-use Rattle.isolation.specs.Isolation.Kind.{Write, Return, Restore}
+use Rattle.multiplexer.proofs.Replying.{located-on, at-slot, at-refusal}
+use Rattle.isolation.specs.Isolation.{Call, lentBlock, takesScreen, callOnPort, serve}
 use Rattle.isolation.proofs.Consoles.{keeps-call}
 
 -- the same clients and panes
@@ -50,24 +50,24 @@ pub record Frame (m : Multiplexer) (s : List ℕ) (n : ℕ) (r : MultiplexerRepl
   pub slots : (i : ℕ) → (Open m i → slotAt m i .client ≡ n → ⊥) → slotAt (r .state) i ≡ slotAt m i
   pub cells : (k : ℕ) → ((i : ℕ) → Open m i → slotAt m i .client ≡ n → Inside (pane m i) k → ⊥) → getD (r .screen) k 0 ≡ getD s k 0
 
--- with 1,920 cells no kind of call is refused with 1
-pub on-cells : (m : Multiplexer) (s : List ℕ) (c : Call) → length s ≡ 1920 → serve m s c ≡ onClientSlot m s c
-unfolding serve
-on-cells m s c l = by-kind (c .kind) refl
-  where
-    by-kind : (k : Kind) → c .kind ≡ k → serve m s c ≡ onClientSlot m s c
-    by-kind (Write bytes) e = rw e (on-screen m s bytes _ l)
-    by-kind (Return block) e = rw e (on-screen m s block _ l)
-    by-kind (Restore block) e = rw e (on-screen m s block _ l)
+module _ (m : Multiplexer) (s : List ℕ) (c : Call) where
+  -- what the call leaves at slot i
+  abbrev servedAt : ℕ → MultiplexerReply
+  servedAt i = relayed m i (callOnPort (c .kind) (slotAt m i .port) s)
+
+  -- with 1,920 cells no call is refused with 1, whether it takes a screen or not
+  pub on-cells : length s ≡ 1920 → serve m s c ≡ onSlot 0 (clientSlot m (c .client)) m s (lentBlock (c .kind)) servedAt
+  unfolding serve
+  on-cells l = rw (located-on s (clientSlot m (c .client)) l) (by-test (λ x. onSlot 0 x m s (lentBlock (c .kind)) servedAt ≡ onSlot 0 (clientSlot m (c .client)) m s (lentBlock (c .kind)) servedAt) (takesScreen (c .kind)) (λ _. refl) (λ _. refl))
 
 module _ (m : Multiplexer) (s : List ℕ) (c : Call) (v : ValidMultiplexer m) (l : length s ≡ 1920) where
   -- a client with no open slot
   pub turned-away : Closed m (c .client) → serve m s c ≡ refusal NotOpen m s (lentBlock (c .kind))
-  turned-away h = on-cells m s c l ∙ at-refusal m s (lentBlock (c .kind)) _ _ NotOpen (goes-nowhere m (c .client) v h)
+  turned-away h = on-cells m s c l ∙ at-refusal m s (lentBlock (c .kind)) (servedAt m s c) _ NotOpen (goes-nowhere m (c .client) v h)
 
   -- a client with an open slot
-  pub goes-to : (i : ℕ) → Open m i → slotAt m i .client ≡ c .client → serve m s c ≡ relayed m i (portCall (c .kind) (slotAt m i .port) s)
-  goes-to i o e = on-cells m s c l ∙ at-slot m s (lentBlock (c .kind)) _ _ i (goes-to-slot m (c .client) v i o e)
+  pub goes-to : (i : ℕ) → Open m i → slotAt m i .client ≡ c .client → serve m s c ≡ relayed m i (callOnPort (c .kind) (slotAt m i .port) s)
+  goes-to i o e = on-cells m s c l ∙ at-slot m s (lentBlock (c .kind)) (servedAt m s c) _ i (goes-to-slot m (c .client) v i o e)
 
   pub frame : Frame m s (c .client) (serve m s c)
   frame =

@@ -12,12 +12,11 @@ use Rattle.reply.specs.declared.Status.{Status}
 use Rattle.reply.specs.Numbers.{numberOf}
 use Rattle.reply.specs.Reply.{Reply}
 use Rattle.calls.specs.Calls.{PortReply, written, blockReturned, blockRestored}
-use Rattle.calls.specs.Screens.{onScreen}
 use Rattle.slots.specs.declared.Multiplexer.{Multiplexer}
 use Rattle.slots.specs.State.{slotAt, pane, Open, Free, Closed}
 use Rattle.slots.specs.Valid.{validMultiplexer}
-use Rattle.multiplexer.specs.Located.{clientSlot}
-use Rattle.multiplexer.specs.Calls.{MultiplexerReply, onSlot, relayed, writeCall, returnCall, restoreCall}
+use Rattle.multiplexer.specs.Located.{clientSlot, locatedOn}
+use Rattle.multiplexer.specs.Calls.{MultiplexerReply, onClient, writeCall, returnCall, restoreCall}
 
 -- a call's 'kind and arguments without the wall and screen'. 'A block is lent to one call only.'
 pub data Kind : Type 0 where
@@ -36,10 +35,10 @@ takesScreen (Return block) = true
 takesScreen (Restore block) = true
 
 -- what the call does to a valid port and 1,920 cells
-abbrev pub portCall : Kind → Port → List ℕ → PortReply
-portCall (Write bytes) p s = written p s bytes
-portCall (Return block) p s = blockReturned p s block
-portCall (Restore block) p s = blockRestored p s block
+abbrev pub callOnPort : Kind → Port → List ℕ → PortReply
+callOnPort (Write bytes) p s = written p s bytes
+callOnPort (Return block) p s = blockReturned p s block
+callOnPort (Restore block) p s = blockRestored p s block
 
 -- a call by client
 pub record Call : Type 0 where
@@ -55,8 +54,8 @@ pub record Answer : Type 0 where
   pub count : ℕ
   pub block : List ℕ
 
-abbrev pub answerOf : {State : Type 0} → Reply Status State ℕ → Answer
-answerOf r = record { number = numberOf (r .status); count = r .result; block = r .block }
+abbrev pub answerFrom : {State : Type 0} → Reply Status State ℕ → Answer
+answerFrom r = record { number = numberOf (r .status); count = r .result; block = r .block }
 
 -- ---- the multiplexer, fed a list of calls
 -- what serves one call: `serve`, or another that is held to the same demand
@@ -64,11 +63,10 @@ abbrev pub Server : Type 0
 Server = Multiplexer → List ℕ → Call → MultiplexerReply
 
 -- 2, then 8, and else the call on the port of the client's slot; 1 before them where the call takes a screen
-abbrev pub onClientSlot : Server
-onClientSlot m s c = onSlot m s (lentBlock (c .kind)) (clientSlot m (c .client)) (λ i. relayed m i (portCall (c .kind) (slotAt m i .port) s))
-
 unfoldable pub serve : Server
-serve m s c = cond (takesScreen (c .kind)) (onScreen m s (lentBlock (c .kind)) (onClientSlot m s c)) (onClientSlot m s c)
+serve m s c =
+    let located = clientSlot m (c .client) in
+    onClient (λ p t _. callOnPort (c .kind) p t) (cond (takesScreen (c .kind)) (locatedOn (length s) located) located) m s (lentBlock (c .kind))
 
 -- the calls that the multiplexer's contracts cite
 pub record ServesCalls (f : Server) : Type 0 where
@@ -87,7 +85,7 @@ serveAll f m s [] = record { multiplexer = m; screen = s; answers = [] }
 serveAll f m s (c ∷ cs) =
     let r : MultiplexerReply = f m s c in
     let rest : Served = serveAll f (r .state) (r .screen) cs in
-    record { multiplexer = rest .multiplexer; screen = rest .screen; answers = answerOf r ∷ rest .answers }
+    record { multiplexer = rest .multiplexer; screen = rest .screen; answers = answerFrom r ∷ rest .answers }
 
 -- ---- the standalone console, the paper's lone bench: 'its state is a port and 1,920 cells'. It knows no slot and no client.
 pub record Standalone : Type 0 where
@@ -98,9 +96,9 @@ pub record Standalone : Type 0 where
 unfoldable pub standalone : Port → List ℕ → List Kind → Standalone
 standalone p s [] = record { port = p; screen = s; answers = [] }
 standalone p s (k ∷ ks) =
-    let r : PortReply = portCall k p s in
+    let r : PortReply = callOnPort k p s in
     let rest : Standalone = standalone (r .state) (r .screen) ks in
-    record { port = rest .port; screen = rest .screen; answers = answerOf r ∷ rest .answers }
+    record { port = rest .port; screen = rest .screen; answers = answerFrom r ∷ rest .answers }
 
 -- ---- which calls are whose
 -- 'the calls with that seat's number, in their order'

@@ -1,7 +1,7 @@
 -- A definition of a code is a chain of choices, `cond test this that`, and the code branches on the same tests in the same order.
 -- So two laws, for a test that is true and for one that is false, serve every code. Assumes nothing.
-use mathlib.Core.Path.{_≡_, sym, _∙_}
-use mathlib.Core.Bool.{Bool, true, false, cond}
+use mathlib.Core.Path.{_≡_, sym, ap, _∙_}
+use mathlib.Core.Bool.{Bool, true, false, cond, not}
 use mathlib.Core.List.{List, _++_}
 use borrow.Author.Tests.{lt-ltb, le-ltb, eq-eqb, ne-eqb}
 
@@ -18,11 +18,11 @@ appended false a b c e = e
 
 pub ruleset choices = (taken, passed, lt-ltb, le-ltb, eq-eqb, ne-eqb)
 
--- the same where a function answered the test
-pub taken-by : {A : Type 0} {x : A} (answer t : Bool) (a b : A) → answer ≡ t → answer ≡ true → x ≡ a → x ≡ cond t a b
-taken-by answer t a b is h e = taken t a b (sym is ∙ h) e
+-- a test, and its negation, by what a function answered
+pub same-test : (answer t b : Bool) → answer ≡ t → answer ≡ b → t ≡ b
+same-test answer t b is e = sym is ∙ e
 
-pub passed-by : {A : Type 0} {x : A} (answer t : Bool) (a b : A) → answer ≡ t → answer ≡ false → x ≡ b → x ≡ cond t a b
-passed-by answer t a b is h e = passed t a b (sym is ∙ h) e
+pub same-not : (answer t b : Bool) → answer ≡ t → not answer ≡ b → not t ≡ b
+same-not answer t b is e = ap not (sym is) ∙ e
 
-pub ruleset answers = (taken-by, passed-by)
+pub ruleset answers = (taken, passed, same-test, same-not)

@@ -97,6 +97,20 @@ decides-unless a b {u} d = record {
   passes = λ q. ⊎-elim (λ e. rw e) (λ e. rw e (d .passes (q (ltb-false a b e)))) (tested (ltb a b));
 }
 
+-- a fact about some one of four numbers
+pub decides-any : (t : ℕ → Bool) (P : ℕ → Type 0) → ((i : ℕ) → Decides (t i) (P i)) → Decides ((t 0 || t 1) || (t 2 || t 3)) ((i : ℕ) × (i < 4) × P i)
+decides-any t P d =
+    decides-as (decides-either (decides-either (d 0) (d 1)) (decides-either (d 2) (d 3)))
+    (λ k. ⊎-elim (λ a. ⊎-elim (λ p. (0, omega arith, p)) (λ p. (1, omega arith, p)) a) (λ a. ⊎-elim (λ p. (2, omega arith, p)) (λ p. (3, omega arith, p)) a) k)
+    (λ k. which (k .0) (k .1) (k .2))
+  where
+    which : (i : ℕ) → i < 4 → P i → (P 0 ⊎ P 1) ⊎ (P 2 ⊎ P 3)
+    which zero h p = inl (inl p)
+    which (suc zero) h p = inl (inr p)
+    which (suc (suc zero)) h p = inr (inl p)
+    which (suc (suc (suc zero))) h p = inr (inr p)
+    which (suc (suc (suc (suc i)))) h p = absurd (omega arith)
+
 -- a fact about each of four numbers
 pub decides-four : (t : ℕ → Bool) (P : ℕ → Type 0) → ((i : ℕ) → Decides (t i) (P i)) → Decides ((t 0 && t 1) && (t 2 && t 3)) ((i : ℕ) → i < 4 → P i)
 decides-four t P d = decides-as (decides-both (decides-both (d 0) (d 1)) (decides-both (d 2) (d 3))) each (λ k. ((k 0 (omega arith), k 1 (omega arith)), (k 2 (omega arith), k 3 (omega arith))))

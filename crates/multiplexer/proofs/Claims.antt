@@ -1,18 +1,15 @@
 -- When a claim of a slot is refused, and when not. Assumes nothing.
-use Prim.Native.Nat.{ℕ, zero, suc, _<_}
-use native.Mathlib.Omega.{arith}
+use Prim.Native.Nat.{ℕ, _<_}
 use mathlib.Core.Path.{_≡_}
-use mathlib.Core.Bool.{Bool, not, _||_}
-use mathlib.Core.Logic.{_⊎_, inl, inr, ⊎-elim}
+use mathlib.Core.Bool.{not}
 use lib.Dec.{leb, eqb}
 use borrow.Author.Tests.{not-false, eqb-false, ne-eqb, leb-false, lt-leb}
-use Rattle.laws.proofs.Tests.{not-both, Decides, decides-eq, decides-both, decides-as, fails, decides-not, decides-either}
+use Rattle.laws.proofs.Tests.{not-both, Decides, decides-eq, decides-both, decides-as, fails, decides-not, decides-any}
 use Rattle.rectangle.specs.declared.Rect.{Rect}
 use Rattle.rectangle.specs.Cells.{Inside}
 use Rattle.rectangle.specs.Rectangles.{legal, Legal}
 use Rattle.rectangle.proofs.Rectangles.{decides-legal}
 use Rattle.rectangle.proofs.Overlaps.{Overlap, decides-overlap, cell-overlap, overlap-cell}
-use Rattle.reply.specs.declared.Status.the-variants.{Invalid, ClientZero, PaneIllegal, ClientTaken, PaneShared, Full}
 use Rattle.slots.specs.declared.Multiplexer.{Multiplexer}
 use Rattle.slots.specs.State.{slotAt, pane, Open, slotOf, hasClient, Closed}
 use Rattle.slots.specs.Valid.{validMultiplexer, ValidMultiplexer}
@@ -24,19 +21,6 @@ use Rattle.multiplexer.specs.Located.{freeSlotFor, claimSlot}
 use Rattle.multiplexer.proofs.Chains.{not-refused}
 
 -- ---- a pane that shares a cell with an open one
-decides-any : (t : ℕ → Bool) (P : ℕ → Type 0) → ((i : ℕ) → Decides (t i) (P i)) → Decides ((t 0 || t 1) || (t 2 || t 3)) ((i : ℕ) × (i < 4) × P i)
-decides-any t P d =
-    decides-as (decides-either (decides-either (d 0) (d 1)) (decides-either (d 2) (d 3)))
-    (λ k. ⊎-elim (λ a. ⊎-elim (λ p. (0, omega arith, p)) (λ p. (1, omega arith, p)) a) (λ a. ⊎-elim (λ p. (2, omega arith, p)) (λ p. (3, omega arith, p)) a) k)
-    (λ k. which (k .0) (k .1) (k .2))
-  where
-    which : (i : ℕ) → i < 4 → P i → (P 0 ⊎ P 1) ⊎ (P 2 ⊎ P 3)
-    which zero h p = inl (inl p)
-    which (suc zero) h p = inl (inr p)
-    which (suc (suc zero)) h p = inr (inl p)
-    which (suc (suc (suc zero))) h p = inr (inr p)
-    which (suc (suc (suc (suc i)))) h p = absurd (omega arith)
-
 pub decides-pane-shared : (m : Multiplexer) → ValidMultiplexer m → (r : Rect) → Legal r
     → Decides (paneShared m r) ((i : ℕ) × Open m i × ((k : ℕ) × Inside (pane m i) k × Inside r k))
 unfolding paneShared
@@ -61,12 +45,12 @@ module _ (m : Multiplexer) (n : ℕ) (r : Rect) where
   pub claims : (i : ℕ) → claimSlot m n r ≡ At i → Claims m n r × (i ≡ slotOf m 0)
   unfolding claimSlot freeSlotFor
   claims i e =
-      let a = not-refused (not (validMultiplexer m)) Invalid _ e in
-      let b = not-refused (eqb n 0) ClientZero _ (a .1) in
-      let c = not-refused (not (legal r)) PaneIllegal _ (b .1) in
-      let d = not-refused (hasClient m n) ClientTaken _ (c .1) in
-      let f = not-refused (paneShared m r) PaneShared _ (d .1) in
-      let g = not-refused (leb 4 (slotOf m 0)) Full _ (f .1) in
+      let a = not-refused (not (validMultiplexer m)) _ _ e in
+      let b = not-refused (eqb n 0) _ _ (a .1) in
+      let c = not-refused (not (legal r)) _ _ (b .1) in
+      let d = not-refused (hasClient m n) _ _ (c .1) in
+      let f = not-refused (paneShared m r) _ _ (d .1) in
+      let g = not-refused (leb 4 (slotOf m 0)) _ _ (f .1) in
       let v = decides-multiplexer m .holds (not-false _ (a .0)) in
       let l = decides-legal r .holds (not-false _ (c .0)) in (
         record {

@@ -25,8 +25,8 @@ module _ (m : Multiplexer) (n : ℕ) where
   pub found : (i : ℕ) → clientSlot m n ≡ At i → Found m i
   unfolding clientSlot hasClient
   found i e =
-      let a = not-refused (not (validMultiplexer m)) Invalid _ e in
-      let b = not-refused (not (hasClient m n)) NotOpen _ (a .1) in
+      let a = not-refused (not (validMultiplexer m)) _ _ e in
+      let b = not-refused (not (hasClient m n)) _ _ (a .1) in
       let v = decides-multiplexer m .holds (not-false _ (a .0)) in
       let has = not-false (hasClient m n) (b .0) in
       let below = ltb-true (slotOf m n) 4 (and-right (not (eqb n 0)) (ltb (slotOf m n) 4) has) in

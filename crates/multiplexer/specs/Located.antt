@@ -4,8 +4,10 @@ use mathlib.Core.Bool.{cond, not}
 use lib.Dec.{leb, eqb}
 use Rattle.rectangle.specs.declared.Rect.{Rect}
 use Rattle.rectangle.specs.Rectangles.{legal}
-use Rattle.screen.specs.Size.{isScreen}
-use Rattle.reply.specs.declared.Status.the-variants.{ScreenLength, Invalid, ClientZero, PaneIllegal, ClientTaken, PaneShared, Full, NotOpen}
+use Rattle.reply.specs.declared.Status.the-variants.{Invalid, ClientZero, PaneIllegal, ClientTaken, PaneShared, Full, NotOpen}
+use Rattle.calls.specs.declared.Judged.{Judged}
+use Rattle.calls.specs.declared.Judged.the-variants as judged
+use Rattle.calls.specs.Judging.{screenJudgement}
 use Rattle.slots.specs.declared.Multiplexer.{Multiplexer}
 use Rattle.slots.specs.State.{slotOf, hasClient}
 use Rattle.slots.specs.Valid.{validMultiplexer}
@@ -36,6 +38,10 @@ claimSlot m n pane =
     (cond (not (legal pane)) (Refused PaneIllegal)
     (freeSlotFor m n pane)))
 
--- 1 before them, as the code finds it: by the screen's length
+-- 1 before them, of a call that takes a screen
+abbrev pub judgedFirst : Judged → Located → Located
+judgedFirst (judged.Refused status) located = Refused status
+judgedFirst judged.Accepted located = located
+
 unfoldable pub locatedOn : ℕ → Located → Located
-locatedOn size located = cond (isScreen size) located (Refused ScreenLength)
+locatedOn size located = judgedFirst (screenJudgement size) located

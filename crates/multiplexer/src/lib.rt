@@ -1,13 +1,14 @@
 // The wall of paper 01: one screen shared by up to four consoles, each in a pane of its own. This is what a host calls.
 // No public function has a `requires`: every input, refused or not, has its equation. No answer names a slot's place.
 // A call is judged here and made in `calls`, on the port of the client's slot.
+use calls::Judged;
+use calls::screen_judgement;
 use port::state::fresh_port;
 use port::state::zero_port;
 use rectangle::Rect;
 use rectangle::legal;
 use reply::Status;
 use screen::clear;
-use screen::is_screen;
 use slots::Multiplexer;
 use slots::lookup::find_client;
 use slots::lookup::has_client;
@@ -102,14 +103,15 @@ fn claim_slot(m: Multiplexer, client: u8, pane: Rect) -> Located
     free_slot_for(m, client, pane)
 }
 
-// Refusal 1 before them, by the screen's length.
+// Refusal 1 before them.
 fn located_on(length: usize, located: Located) -> Located
     ensures { λ r. ⌜ r ≡ locatedOn length located ⌝ }
 {
-    if is_screen(length) {
-        return located;
+    let judged = screen_judgement(length);
+    match judged {
+        Judged::Refused(status) => Located::Refused(status),
+        Judged::Accepted => located,
     }
-    Located::Refused(Status::ScreenLength)
 }
 
 // What a call on the port of slot i answered.

@@ -1,5 +1,5 @@
 -- Paper 01, 'Screen and port': 'the screen is 1,920 bytes: 24 lines of 80 columns, line 0 first, column 0 first'. Assumes nothing.
-use Prim.Native.Nat.{ℕ, _/_, _%_, _≤_}
+use Prim.Native.Nat.{ℕ, _+_, _*_, _/_, _%_, _≤_}
 use mathlib.Core.Bool.{Bool, _&&_}
 use lib.Dec.{leb}
 use Rattle.rectangle.specs.declared.Rect.{Rect}
@@ -10,6 +10,10 @@ columnOf i = i % 80
 
 abbrev pub lineOf : ℕ → ℕ
 lineOf i = i / 80
+
+-- .. and the cell of a column and a line
+abbrev pub cellIndex : ℕ → ℕ → ℕ
+cellIndex column line = 80 * line + column
 
 -- cell i lies in the rectangle, all of whose edges are inclusive: as a fact, and as a test
 pub record Inside (r : Rect) (i : ℕ) : Type 0 where

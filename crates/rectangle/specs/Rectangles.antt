@@ -1,4 +1,4 @@
--- Paper 01, 'Screen and port': 'a rectangle is left, top, right, bottom, all inclusive'. Where a rule has a test, its proposition stands beside it. Assumes nothing.
+-- Paper 01, 'Screen and port': 'a rectangle is left, top, right, bottom, all inclusive'. Where a rule has a test, a proposition stands beside it. Assumes nothing.
 use Prim.Native.Nat.{ℕ, _+_, _-_, _≤_, _<_}
 use mathlib.Core.Bool.{Bool, _&&_}
 use lib.Dec.{ltb, leb, eqb}
@@ -39,7 +39,7 @@ pub record Legal (r : Rect) : Type 0 where
   pub tall : r .top < r .bottom
   pub bottom-in : r .bottom ≤ 23
 
--- each edge of one rectangle is in the other; and of a rectangle of at least one cell
+-- each edge of one rectangle is in the other; `Within` says besides that it has a cell
 unfoldable pub within : Rect → Rect → Bool
 within inner outer =
     (leb (outer .left) (inner .left) && leb (inner .right) (outer .right))

@@ -1,4 +1,5 @@
 // Rectangles of the screen of paper 01, 'Screen and port', and edits of them. What an edit makes of the 1,920 cells is defined here; the loops that carry it out are in `screen`.
+// The tests are joined without branches, as the definitions are.
 ghost use mathlib.Core.Path.{_≡_};
 ghost use Rattle.rectangle.specs.Rectangles as rules;
 
@@ -45,13 +46,14 @@ pub fn height(rect: Rect) -> u8
     rect.bottom - rect.top + 1
 }
 
-// The tests are joined without branches, as the definitions are.
+// At least two columns and two lines, on the screen.
 pub fn legal(r: Rect) -> bool
     ensures { λ b. ⌜ b ≡ rules.legal r ⌝ }
 {
     ((r.left < r.right) & (r.right <= 79)) & ((r.top < r.bottom) & (r.bottom <= 23))
 }
 
+// Each edge of one rectangle is in the other.
 pub fn within(inner: Rect, outer: Rect) -> bool
     ensures { λ b. ⌜ b ≡ rules.within inner outer ⌝ }
 {

@@ -16,8 +16,8 @@ abbrev pub Filled : ℕ → ℕ → ℕ → List ℕ → List ℕ → Type 0
 Filled start end byte s t = Rewritten start end (λ i. byte) s t
 
 -- .. with what s held at another place
-abbrev pub Moved : ℕ → ℕ → (ℕ → ℕ) → List ℕ → List ℕ → Type 0
-Moved start end from s t = Rewritten start end (λ i. getD s (from i) 0) s t
+abbrev pub Relocated : ℕ → ℕ → (ℕ → ℕ) → List ℕ → List ℕ → Type 0
+Relocated start end from s t = Rewritten start end (λ i. getD s (from i) 0) s t
 
 -- t is s with count bytes of source, those from place from on, from place at on
 abbrev pub Copied : List ℕ → ℕ → ℕ → ℕ → List ℕ → List ℕ → Type 0

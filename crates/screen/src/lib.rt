@@ -1,5 +1,5 @@
 // The screen of paper 01, 'Screen and port': 1,920 bytes, 24 lines of 80 columns, line 0 first, column 0 first.
-// The loops that read or write its cells: an edit clears, scrolls or shifts one rectangle of it, and neighbouring cells are copied out and in. No other crate indexes the screen.
+// The loops that read or write its cells: an edit clears, scrolls or shifts one rectangle of it, and neighbouring cells are copied out and in. No other crate of the library indexes it.
 use rectangle::Edit;
 use rectangle::Motion;
 use rectangle::Rect;
@@ -8,9 +8,10 @@ ghost use mathlib.Core.Path.{_≡_};
 ghost use Prim.Native.Nat.{_+_, _-_, _*_, _≤_, _<_, min};
 ghost use mathlib.Core.List.{[]};
 ghost use lib.ListN.{length, take, drop};
+ghost use Rattle.rectangle.specs.Cells.{cellIndex};
 ghost use Rattle.rectangle.specs.Rectangles.{OnScreen, cellAt};
 ghost use Rattle.screen.specs.Size.{isScreen};
-ghost use Rattle.screen.specs.Rewrite.{Filled, Moved, Copied};
+ghost use Rattle.screen.specs.Rewrite.{Filled, Relocated, Copied};
 ghost use Rattle.rectangle.specs.Edit.{edited};
 
 // Whether lent bytes are a screen, by their number: refusal 1 of every call that takes one.
@@ -23,7 +24,7 @@ pub fn is_screen(length: usize) -> bool
 // The index of a cell.
 fn cell_index(column: usize, line: usize) -> usize
     requires { ⌜ (column ≤ 80) × (line ≤ 23) ⌝ }
-    ensures { λ r. ⌜ r ≡ 80 * line + column ⌝ }
+    ensures { λ r. ⌜ r ≡ cellIndex column line ⌝ }
 {
     80 * line + column
 }
@@ -63,7 +64,7 @@ pub fn read_cells(
     at: usize,
 )
     requires { ⌜ (column + count ≤ 80) × (line ≤ 23) × (length (now screen) ≡ 1920) × (at + count ≤ length (now block)) ⌝ }
-    ensures { λ _. ⌜ Copied (now (screen .entry)) (80 * line + column) at count (now (block .entry)) (now (block .exit)) ⌝ }
+    ensures { λ _. ⌜ Copied (now (screen .entry)) (cellIndex column line) at count (now (block .entry)) (now (block .exit)) ⌝ }
 {
     copy_run(screen, cell_index(column, line), block, at, count);
 }
@@ -78,7 +79,7 @@ pub fn write_cells(
     at: usize,
 )
     requires { ⌜ (column + count ≤ 80) × (line ≤ 23) × (length (now screen) ≡ 1920) × (at + count ≤ length (now block)) ⌝ }
-    ensures { λ _. ⌜ Copied (now (block .entry)) at (80 * line + column) count (now (screen .entry)) (now (screen .exit)) ⌝ }
+    ensures { λ _. ⌜ Copied (now (block .entry)) at (cellIndex column line) count (now (screen .entry)) (now (screen .exit)) ⌝ }
 {
     copy_run(block, at, screen, cell_index(column, line), count);
 }
@@ -86,7 +87,7 @@ pub fn write_cells(
 // Cells of a line, count of them from column on, as a part of the lent screen itself.
 pub fn part_of_line(screen: &[u8], column: usize, line: usize, count: usize) -> &[u8]
     requires { ⌜ (column + count ≤ 80) × (line ≤ 23) × (length (now screen) ≡ 1920) ⌝ }
-    ensures { λ r. ⌜ now r ≡ take count (drop (80 * line + column) (now (screen .entry))) ⌝ }
+    ensures { λ r. ⌜ now r ≡ take count (drop (cellIndex column line) (now (screen .entry))) ⌝ }
 {
     let start = cell_index(column, line);
     let end = start + count;
@@ -113,7 +114,7 @@ fn fill_run(screen: &mut [u8], start: usize, end: usize, byte: u8)
 // Each cell from start up to end becomes the one gap places after it: the first cell first, so that none is read after it was stored to.
 fn pull_run(screen: &mut [u8], start: usize, end: usize, gap: usize)
     requires { ⌜ (start ≤ end) × (end + gap ≤ length (now screen)) ⌝ }
-    ensures { λ _. ⌜ Moved start end (λ i. i + gap) (now (screen .entry)) (now (screen .exit)) ⌝ }
+    ensures { λ _. ⌜ Relocated start end (λ i. i + gap) (now (screen .entry)) (now (screen .exit)) ⌝ }
 {
     for i in start..end {
         screen[i] = screen[i + gap];
@@ -123,7 +124,7 @@ fn pull_run(screen: &mut [u8], start: usize, end: usize, gap: usize)
 // Each cell from start up to end becomes the one gap places before it: the last cell first.
 fn push_run(screen: &mut [u8], start: usize, end: usize, gap: usize)
     requires { ⌜ (start ≤ end) × (end ≤ length (now screen)) × (gap ≤ start) ⌝ }
-    ensures { λ _. ⌜ Moved start end (λ i. i - gap) (now (screen .entry)) (now (screen .exit)) ⌝ }
+    ensures { λ _. ⌜ Relocated start end (λ i. i - gap) (now (screen .entry)) (now (screen .exit)) ⌝ }
 {
     let mut i = end;
     while start < i {
@@ -135,7 +136,7 @@ fn push_run(screen: &mut [u8], start: usize, end: usize, gap: usize)
 // The scrolling routine: columns start up to end of line target become those of line source, cell after cell.
 fn copy_line(screen: &mut [u8], start: usize, end: usize, source: usize, target: usize)
     requires { ⌜ (start ≤ end) × (end ≤ 80) × (source ≤ 23) × (target ≤ 23) × (length (now screen) ≡ 1920) ⌝ }
-    ensures { λ _. ⌜ Moved (80 * target + start) (80 * target + end) (λ i. i + 80 * source - 80 * target) (now (screen .entry)) (now (screen .exit)) ⌝ }
+    ensures { λ _. ⌜ Relocated (cellIndex start target) (cellIndex end target) (λ i. i + 80 * source - 80 * target) (now (screen .entry)) (now (screen .exit)) ⌝ }
 {
     for column in start..end {
         screen[cell_index(column, target)] = screen[cell_index(column, source)];

@@ -1,6 +1,6 @@
 -- `multiplexer::close` meets its contract: refused, or the slot becomes a free one. Assumes nothing.
 use borrow.Author.Needs.{needs}
-use Rattle.multiplexer.proofs.Replying.{close-place, close-refused-by, close-done-by}
+use Rattle.multiplexer.proofs.Replying.{close-place, replies-refused, close-done-by}
 use Rattle.multiplexer.proofs.close.Statement.{statement}
 use Rattle.multiplexer.proofs.close.Tie as tie
 
@@ -29,7 +29,7 @@ answer-of-requires-2 : tie.Need-answer-of-requires-2
 answer-of-requires-2 c κs = search needs
 
 returns : tie.Need-returns
-returns c = search close-refused-by
+returns c = search replies-refused
 
 returns-2 : tie.Need-returns-2
 returns-2 c = search close-done-by

@@ -1,6 +1,6 @@
 -- `multiplexer::open` meets its contract: refused, or the claimed slot becomes a fresh one and its pane is blank. Assumes nothing.
 use borrow.Author.Needs.{needs}
-use Rattle.multiplexer.proofs.Replying.{openings, replies-refused, open-done-by}
+use Rattle.multiplexer.proofs.Replying.{openings, screen-refused, open-done-by}
 use Rattle.multiplexer.proofs.open.Statement.{statement}
 use Rattle.multiplexer.proofs.open.Tie as tie
 
@@ -35,7 +35,7 @@ answer-of-requires-2 : tie.Need-answer-of-requires-2
 answer-of-requires-2 c κs = search needs
 
 returns : tie.Need-returns
-returns c = search replies-refused
+returns c = search screen-refused
 
 same-length : tie.Need-same-length
 same-length c = search needs

@@ -1,6 +1,6 @@
 -- `multiplexer::restore_block` meets its contract: refused before it starts, or the reply of `calls` to the slot's port, put back. Assumes nothing.
 use borrow.Author.Needs.{needs}
-use Rattle.multiplexer.proofs.Replying.{places, replies-refused, replies-relayed}
+use Rattle.multiplexer.proofs.Replying.{places, screen-refused, replies-relayed}
 use Rattle.multiplexer.proofs.restore_block.Statement.{statement}
 use Rattle.multiplexer.proofs.restore_block.Tie as tie
 
@@ -29,7 +29,7 @@ relay-requires : tie.Need-relay-requires
 relay-requires c κs = search (places, needs)
 
 returns : tie.Need-returns
-returns c = search replies-refused
+returns c = search screen-refused
 
 same-length : tie.Need-same-length
 same-length c = search needs

@@ -63,8 +63,8 @@ pub fn write_byte(p: Port, screen: &mut [u8], byte: u8) -> Answer
     requires { ⌜ Valid p × (length (now screen) ≡ 1920) ⌝ }
     ensures { λ r. ⌜ Replies (written p (now (screen .entry)) (byte ∷ [])) (r .status) (r .port) (r .count) (now (screen .exit)) (byte ∷ []) ⌝ }
 {
-    let written = carry_single(screen, p, byte);
-    answer_of(Status::Done, written.port, written.bells)
+    let obeyed = carry_single(screen, p, byte);
+    answer_of(Status::Done, obeyed.port, obeyed.bells)
 }
 
 // Hands the viewport's text out: the block fills the front of the lent one. The count is of its bytes.

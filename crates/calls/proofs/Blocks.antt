@@ -11,7 +11,7 @@ use Rattle.block.proofs.Rows.{length-block, block-fits}
 use Rattle.block.proofs.Restores.{restore-returned}
 use Rattle.port.specs.declared.Port.{Port}
 use Rattle.port.specs.Valid.{Valid}
-use Rattle.executor.proofs.Carrying.{viewport-on-screen}
+use Rattle.port.proofs.Validity.{viewport-on-screen}
 use Rattle.reply.specs.declared.Status.the-variants.{Done}
 use Rattle.calls.specs.Calls.{PortReply, blockReturned, blockRestored}
 

@@ -11,8 +11,7 @@ use Rattle.block.specs.Block.{blockLength, rowCells}
 use Rattle.block.proofs.Rows.{row-not-empty}
 use Rattle.port.specs.declared.Port.{Port}
 use Rattle.port.specs.Valid.{Valid}
-use Rattle.port.proofs.Validity.{decides-valid}
-use Rattle.executor.proofs.Carrying.{viewport-on-screen}
+use Rattle.port.proofs.Validity.{decides-valid, viewport-on-screen}
 use Rattle.reply.specs.declared.Status.the-variants.{Done}
 use Rattle.reply.specs.Laws.{RoundTrip}
 use Rattle.calls.specs.Calls.{PortReply, blockReturned, blockRestored}

@@ -13,8 +13,7 @@ use Rattle.screen.proofs.Sizes.{decides-screen}
 use Rattle.block.specs.Block.{rowCells}
 use Rattle.port.specs.declared.Port.{Port}
 use Rattle.port.specs.Valid.{valid, Valid}
-use Rattle.port.proofs.Validity.{decides-valid}
-use Rattle.executor.proofs.Carrying.{viewport-on-screen}
+use Rattle.port.proofs.Validity.{decides-valid, viewport-on-screen}
 use Rattle.reply.specs.declared.Status.{Status}
 use Rattle.reply.specs.declared.Status.the-variants.{ScreenLength, Invalid}
 use Rattle.reply.specs.Reply.{Replies}

@@ -12,7 +12,6 @@ use borrow.Author.Tests.{eqb-true, eq-eqb, leb-true, leb-false}
 use lib.ListN.{length, drop, getD}
 use lib.Seq.{drop-cons}
 use Rattle.laws.proofs.Tests.{by-test, and-left, and-right}
-use Rattle.rectangle.specs.Rectangles.{OnScreen}
 use Rattle.rectangle.specs.Edit.{draw}
 use Rattle.rectangle.proofs.Local.{draw-append}
 use Rattle.charset.specs.declared.Mode.{Mode}
@@ -69,9 +68,6 @@ pub same-size : {m : Outcome} {q : Port} {n : ℕ} {s t : List ℕ} → Carried 
 same-size {m} {q} {n} {s} d len = ap length (d .cells) ∙ length-draw (m .edits) s len ∙ sym len
 
 -- what a valid port's byte needs
-pub viewport-on-screen : (p : Port) → Valid p → OnScreen (p .view .viewport)
-viewport-on-screen p h = let l = h .view .legal in omega arith
-
 at-most-four : (code : ℕ) → parameters code ≤ 4
 unfolding parameters
 at-most-four code =

@@ -10,6 +10,7 @@ use Rattle.rectangle.specs.Cells.{Inside}
 use Rattle.rectangle.specs.Rectangles.{legal, Legal}
 use Rattle.rectangle.proofs.Rectangles.{decides-legal}
 use Rattle.rectangle.proofs.Overlaps.{Overlap, decides-overlap, cell-overlap, overlap-cell}
+use Rattle.calls.proofs.Judging.{accepted-by}
 use Rattle.slots.specs.declared.Multiplexer.{Multiplexer}
 use Rattle.slots.specs.State.{slotAt, pane, Open, slotOf, hasClient, Closed}
 use Rattle.slots.specs.Valid.{validMultiplexer, ValidMultiplexer}
@@ -17,8 +18,8 @@ use Rattle.slots.specs.Panes.{sharesPane, paneShared}
 use Rattle.slots.proofs.Validity.{decides-multiplexer}
 use Rattle.slots.proofs.Slots.{decides-client}
 use Rattle.multiplexer.specs.declared.Located.the-variants.{At}
-use Rattle.multiplexer.specs.Located.{freeSlotFor, claimSlot}
-use Rattle.multiplexer.proofs.Chains.{not-refused}
+use Rattle.multiplexer.specs.Located.{multiplexerJudgement, claimJudgement, freeSlotFor, judgedFirst, claimSlot}
+use Rattle.multiplexer.proofs.Chains.{not-refused, not-judged, judged-at}
 
 -- ---- a pane that shares a cell with an open one
 pub decides-pane-shared : (m : Multiplexer) → ValidMultiplexer m → (r : Rect) → Legal r
@@ -43,29 +44,30 @@ pub record Claims (m : Multiplexer) (n : ℕ) (r : Rect) : Type 0 where
 module _ (m : Multiplexer) (n : ℕ) (r : Rect) where
   -- none applies, and the place is that of the lowest free slot
   pub claims : (i : ℕ) → claimSlot m n r ≡ At i → Claims m n r × (i ≡ slotOf m 0)
-  unfolding claimSlot freeSlotFor
+  unfolding multiplexerJudgement claimJudgement freeSlotFor
   claims i e =
-      let a = not-refused (not (validMultiplexer m)) _ _ e in
-      let b = not-refused (eqb n 0) _ _ (a .1) in
-      let c = not-refused (not (legal r)) _ _ (b .1) in
-      let d = not-refused (hasClient m n) _ _ (c .1) in
-      let f = not-refused (paneShared m r) _ _ (d .1) in
-      let g = not-refused (leb 4 (slotOf m 0)) _ _ (f .1) in
-      let v = decides-multiplexer m .holds (not-false _ (a .0)) in
-      let l = decides-legal r .holds (not-false _ (c .0)) in (
+      let a = judged-at (multiplexerJudgement m) _ i e in
+      let b = judged-at (claimJudgement n r) _ i (a .1) in
+      let zero = not-judged (eqb n 0) _ _ (b .0) in
+      let illegal = not-judged (not (legal r)) _ _ (zero .1) in
+      let taken = not-refused (hasClient m n) _ _ (b .1) in
+      let shared = not-refused (paneShared m r) _ _ (taken .1) in
+      let full = not-refused (leb 4 (slotOf m 0)) _ _ (shared .1) in
+      let v = decides-multiplexer m .holds (accepted-by (validMultiplexer m) _ (a .0)) in
+      let l = decides-legal r .holds (not-false _ (illegal .0)) in (
         record {
           valid = v;
-          not-zero = eqb-false _ _ (b .0);
+          not-zero = eqb-false _ _ (zero .0);
           legal = l;
-          new = λ j o k. not-both (decides-client m n .passes (j, o, k)) (d .0);
-          apart = λ j o k x y. not-both (decides-pane-shared m v r l .passes (j, o, (k, x, y))) (f .0);
-          room = leb-false _ _ (g .0);
+          new = λ j o k. not-both (decides-client m n .passes (j, o, k)) (taken .0);
+          apart = λ j o k x y. not-both (decides-pane-shared m v r l .passes (j, o, (k, x, y))) (shared .0);
+          room = leb-false _ _ (full .0);
         },
-        (let at = g .1 in cc),
+        (let at = full .1 in cc),
       )
 
   pub claims-lowest : Claims m n r → claimSlot m n r ≡ At (slotOf m 0)
-  unfolding claimSlot freeSlotFor
+  unfolding judgedFirst multiplexerJudgement claimJudgement freeSlotFor
   claims-lowest o =
       simp (
         decides-multiplexer m .passes (o .valid),

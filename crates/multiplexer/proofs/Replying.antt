@@ -28,7 +28,7 @@ use Rattle.slots.specs.State.{newSlot, freeSlot, slotAt, withSlot, withPort}
 use Rattle.multiplexer.specs.declared.Answer.{Answer}
 use Rattle.multiplexer.specs.declared.Located.{Located}
 use Rattle.multiplexer.specs.declared.Located.the-variants.{Refused, At}
-use Rattle.multiplexer.specs.Located.{clientSlot, claimSlot, locatedOn}
+use Rattle.multiplexer.specs.Located.{judgedFirst, clientSlot, claimSlot, locatedOn}
 use Rattle.multiplexer.specs.Calls.{MultiplexerReply, onSlot, relayed, onClient, openedAt, openCall, closedAt, closeCall, answerOf}
 use Rattle.multiplexer.proofs.Chains.{judged-at}
 use Rattle.multiplexer.proofs.Claims.{claims}
@@ -37,15 +37,14 @@ use Rattle.multiplexer.proofs.Clients.{found}
 -- ---- where a call goes
 -- with 1,920 cells where it goes without a screen, and otherwise nowhere
 pub located-on : (s : List ℕ) (located : Located) → length s ≡ 1920 → locatedOn (length s) located ≡ located
-unfolding locatedOn
+unfolding judgedFirst
 located-on s located len = rw (on-screen (length s) len)
 
 pub located-off : (s : List ℕ) (located : Located) → (length s ≡ 1920 → ⊥) → locatedOn (length s) located ≡ Refused ScreenLength
-unfolding locatedOn
+unfolding judgedFirst
 located-off s located no-screen = rw (off-screen (length s) no-screen)
 
 pub located-at : (s : List ℕ) (located : Located) (i : ℕ) → locatedOn (length s) located ≡ At i → (length s ≡ 1920) × (located ≡ At i)
-unfolding locatedOn
 located-at s located i e = let k = judged-at (screenJudgement (length s)) located i e in (screen-accepted (length s) (k .0), k .1)
 
 -- ---- the reply, by where the call goes

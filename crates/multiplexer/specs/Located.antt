@@ -15,14 +15,18 @@ use Rattle.slots.specs.Panes.{paneShared}
 use Rattle.multiplexer.specs.declared.Located.{Located}
 use Rattle.multiplexer.specs.declared.Located.the-variants.{Refused, At}
 
--- a call for an open client: 2 if 'the .. wall handed in is not sound', 8 if 'no open seat has this number', and else the client's slot
-unfoldable pub clientSlot : Multiplexer → ℕ → Located
-clientSlot m n =
-    cond (not (validMultiplexer m)) (Refused Invalid)
-    (cond (not (hasClient m n)) (Refused NotOpen)
-    (At (slotOf m n)))
+-- 2 if 'the .. wall handed in is not sound'
+unfoldable pub multiplexerJudgement : Multiplexer → Judged
+multiplexerJudgement m = cond (validMultiplexer m) judged.Accepted (judged.Refused Invalid)
 
--- a claim of a slot: 5 to 7, by what is open, and else 'the lowest free seat'
+-- 3 if 'opening with bench number 0', 4 if 'opening with a pane that is not legal'
+unfoldable pub claimJudgement : ℕ → Rect → Judged
+claimJudgement n pane =
+    cond (eqb n 0) (judged.Refused ClientZero)
+    (cond (not (legal pane)) (judged.Refused PaneIllegal)
+    judged.Accepted)
+
+-- 5 if 'opening with a number that is open already', 6 if 'opening with a pane that shares a cell with an open pane', 7 if 'opening while four seats are open', and else 'the lowest free seat'
 unfoldable pub freeSlotFor : Multiplexer → ℕ → Rect → Located
 freeSlotFor m n pane =
     cond (hasClient m n) (Refused ClientTaken)
@@ -30,18 +34,23 @@ freeSlotFor m n pane =
     (cond (leb 4 (slotOf m 0)) (Refused Full)
     (At (slotOf m 0))))
 
--- .. and before them 2, 3 and 4
-unfoldable pub claimSlot : Multiplexer → ℕ → Rect → Located
-claimSlot m n pane =
-    cond (not (validMultiplexer m)) (Refused Invalid)
-    (cond (eqb n 0) (Refused ClientZero)
-    (cond (not (legal pane)) (Refused PaneIllegal)
-    (freeSlotFor m n pane)))
+-- 8 if 'no open seat has this number (0 never has)', and else the client's slot
+unfoldable pub openSlot : Multiplexer → ℕ → Located
+openSlot m n = cond (not (hasClient m n)) (Refused NotOpen) (At (slotOf m n))
 
--- 1 before them, of a call that takes a screen
-abbrev pub judgedFirst : Judged → Located → Located
+-- a judgement first, and where it refuses nothing, where the call goes
+unfoldable pub judgedFirst : Judged → Located → Located
 judgedFirst (judged.Refused status) located = Refused status
 judgedFirst judged.Accepted located = located
 
-unfoldable pub locatedOn : ℕ → Located → Located
+-- a call for an open client: 2, then 8
+abbrev pub clientSlot : Multiplexer → ℕ → Located
+clientSlot m n = judgedFirst (multiplexerJudgement m) (openSlot m n)
+
+-- a claim of a slot: 2, then 3 to 7
+abbrev pub claimSlot : Multiplexer → ℕ → Rect → Located
+claimSlot m n pane = judgedFirst (multiplexerJudgement m) (judgedFirst (claimJudgement n pane) (freeSlotFor m n pane))
+
+-- 1 before them, of a call that takes a screen
+abbrev pub locatedOn : ℕ → Located → Located
 locatedOn size located = judgedFirst (screenJudgement size) located

@@ -23,7 +23,7 @@ ghost use Prim.Native.Nat.{_<_};
 ghost use mathlib.Core.List.{[]};
 ghost use Rattle.reply.specs.Reply.{Replies};
 ghost use Rattle.slots.specs.State.{freshMultiplexer, withPort};
-ghost use Rattle.multiplexer.specs.Located.{clientSlot, freeSlotFor, claimSlot, locatedOn};
+ghost use Rattle.multiplexer.specs.Located.{multiplexerJudgement, claimJudgement, freeSlotFor, openSlot, judgedFirst, clientSlot, claimSlot, locatedOn};
 ghost use Rattle.multiplexer.specs.Calls.{writeCall, returnCall, restoreCall, openCall, closeCall, answerOf};
 
 // What a call hands back: the status, the multiplexer, and the count of bells or of bytes.
@@ -57,17 +57,27 @@ enum Located {
     At(usize),
 }
 
-// Refusal 2, then 8, and else the client's slot.
-fn client_slot(m: Multiplexer, client: u8) -> Located
-    ensures { λ r. ⌜ r ≡ clientSlot m client ⌝ }
+// Refusal 2.
+fn judge(m: Multiplexer) -> Judged
+    ensures { λ r. ⌜ r ≡ multiplexerJudgement m ⌝ }
 {
-    if !valid_multiplexer(m) {
-        return Located::Refused(Status::Invalid);
+    if valid_multiplexer(m) {
+        return Judged::Accepted;
     }
-    if !has_client(m, client) {
-        return Located::Refused(Status::NotOpen);
+    Judged::Refused(Status::Invalid)
+}
+
+// Refusals 3 and 4, by what a claim asks for.
+fn judge_claim(client: u8, pane: Rect) -> Judged
+    ensures { λ r. ⌜ r ≡ claimJudgement client pane ⌝ }
+{
+    if client == 0 {
+        return Judged::Refused(Status::ClientZero);
     }
-    Located::At(find_client(m, client))
+    if !legal(pane) {
+        return Judged::Refused(Status::PaneIllegal);
+    }
+    Judged::Accepted
 }
 
 // Refusals 5 to 7, by what is open, and else the lowest free slot.
@@ -87,31 +97,46 @@ fn free_slot_for(m: Multiplexer, client: u8, pane: Rect) -> Located
     Located::At(lowest)
 }
 
-// Refusals 2, 3 and 4 before them.
+// Refusal 8, and else the client's slot.
+fn open_slot(m: Multiplexer, client: u8) -> Located
+    ensures { λ r. ⌜ r ≡ openSlot m client ⌝ }
+{
+    if !has_client(m, client) {
+        return Located::Refused(Status::NotOpen);
+    }
+    Located::At(find_client(m, client))
+}
+
+// A judgement first, and where it refuses nothing, where the call goes.
+fn judged_first(judged: Judged, located: Located) -> Located
+    ensures { λ r. ⌜ r ≡ judgedFirst judged located ⌝ }
+{
+    match judged {
+        Judged::Refused(status) => Located::Refused(status),
+        Judged::Accepted => located,
+    }
+}
+
+// Refusal 2, then 8.
+fn client_slot(m: Multiplexer, client: u8) -> Located
+    ensures { λ r. ⌜ r ≡ clientSlot m client ⌝ }
+{
+    judged_first(judge(m), open_slot(m, client))
+}
+
+// Refusal 2, then 3 to 7.
 fn claim_slot(m: Multiplexer, client: u8, pane: Rect) -> Located
     ensures { λ r. ⌜ r ≡ claimSlot m client pane ⌝ }
 {
-    if !valid_multiplexer(m) {
-        return Located::Refused(Status::Invalid);
-    }
-    if client == 0 {
-        return Located::Refused(Status::ClientZero);
-    }
-    if !legal(pane) {
-        return Located::Refused(Status::PaneIllegal);
-    }
-    free_slot_for(m, client, pane)
+    let asked = judged_first(judge_claim(client, pane), free_slot_for(m, client, pane));
+    judged_first(judge(m), asked)
 }
 
 // Refusal 1 before them.
 fn located_on(length: usize, located: Located) -> Located
     ensures { λ r. ⌜ r ≡ locatedOn length located ⌝ }
 {
-    let judged = screen_judgement(length);
-    match judged {
-        Judged::Refused(status) => Located::Refused(status),
-        Judged::Accepted => located,
-    }
+    judged_first(screen_judgement(length), located)
 }
 
 // What a call on the port of slot i answered.

@@ -10,8 +10,8 @@ use lib.ListN.{getD}
 use borrow.Author.Tests.{eqb-true, eqb-false, eq-eqb, ne-eqb}
 use Rattle.laws.proofs.Tests.{tested, not-both, Decides, decides-lt, decides-le, decides-eq, decides-both, decides-if, decides-unless, decides-four, decides-as, decides-off}
 use Rattle.rectangle.specs.declared.Rect.{Rect}
-use Rattle.rectangle.specs.Rectangles.{Legal}
-use Rattle.rectangle.proofs.Rectangles.{decides-legal, decides-within, decides-zero-rect}
+use Rattle.rectangle.specs.Rectangles.{OnScreen, Legal}
+use Rattle.rectangle.proofs.Rectangles.{decides-legal, legal-on-screen, decides-within, decides-zero-rect}
 use Rattle.port.specs.declared.Flags.{Flags}
 use Rattle.port.specs.declared.View.{View}
 use Rattle.port.specs.declared.Port.{Port}
@@ -97,6 +97,10 @@ decides-valid p =
     (decides-both (decides-saved (p .home) (p .hassaved) (p .saved)) (decides-wait (p .waiting) (p .gathered) (p .count))))
     (λ k. record { home = k .0 .0; view = k .0 .1; saved = k .1 .0 .0; unsaved = k .1 .0 .1; wait = k .1 .1 })
     (λ h. ((h .home, h .view), ((h .saved, h .unsaved), h .wait)))
+
+-- the viewport of a valid port lies on the screen
+pub viewport-on-screen : (p : Port) → Valid p → OnScreen (p .view .viewport)
+viewport-on-screen p h = legal-on-screen (p .view .viewport) (h .view .legal)
 
 -- ---- what keeps a port valid: another part of its state that is valid by itself
 module _ (p : Port) (h : Valid p) where

@@ -1,6 +1,7 @@
 -- `executor::carry_byte` meets its contract: a printing code, or a plan that is the definition's step, whose edits lie inside the viewport. Assumes nothing.
 use borrow.Author.Needs.{needs}
-use Rattle.executor.proofs.Carrying.{passed, viewport-on-screen, few-gathered, not-printed, stored-as, plan-on-screen, byte-carried, same-size}
+use Rattle.port.proofs.Validity.{viewport-on-screen}
+use Rattle.executor.proofs.Carrying.{passed, few-gathered, not-printed, stored-as, plan-on-screen, byte-carried, same-size}
 use Rattle.executor.proofs.carry_byte.Statement.{statement}
 use Rattle.executor.proofs.carry_byte.Tie as tie
 

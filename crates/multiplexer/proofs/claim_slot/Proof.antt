@@ -1,43 +1,33 @@
--- `multiplexer::claim_slot` meets its contract: one return for each refusal, in the definition's order, and one for the rest. Assumes nothing.
+-- `multiplexer::claim_slot` meets its contract: 2 is judged before 3 and 4, and these before the rest. Assumes nothing.
 use borrow.Author.Needs.{needs}
-use Rattle.multiplexer.specs.Located.{claimSlot}
-use Rattle.multiplexer.proofs.Chains.{chain}
 use Rattle.multiplexer.proofs.claim_slot.Statement.{statement}
 use Rattle.multiplexer.proofs.claim_slot.Tie as tie
 
-valid-multiplexer-requires : tie.Need-valid-multiplexer-requires
-valid-multiplexer-requires c κs = search needs
-
-returns : tie.Need-returns
-unfolding claimSlot
-returns c = search chain
-
-returns-2 : tie.Need-returns-2
-unfolding claimSlot
-returns-2 c = search chain
-
-legal-requires : tie.Need-legal-requires
-legal-requires c κs = search needs
-
-returns-3 : tie.Need-returns-3
-unfolding claimSlot
-returns-3 c = search chain
+judge-claim-requires : tie.Need-judge-claim-requires
+judge-claim-requires c κs = search needs
 
 free-slot-for-requires : tie.Need-free-slot-for-requires
 free-slot-for-requires c κs = search needs
 
-returns-4 : tie.Need-returns-4
-unfolding claimSlot
-returns-4 c = search chain
+judged-first-requires : tie.Need-judged-first-requires
+judged-first-requires c κs = search needs
+
+judge-requires : tie.Need-judge-requires
+judge-requires c κs = search needs
+
+judged-first-requires-2 : tie.Need-judged-first-requires-2
+judged-first-requires-2 c κs = search needs
+
+returns : tie.Need-returns
+returns c = (cc)
 
 pub claim-slot-spec : {M : Type 1} → statement M
 claim-slot-spec =
     tie.close
     (tie.spec
-    valid-multiplexer-requires
-    returns
-    returns-2
-    legal-requires
-    returns-3
+    judge-claim-requires
     free-slot-for-requires
-    returns-4)
+    judged-first-requires
+    judge-requires
+    judged-first-requires-2
+    returns)

@@ -1,7 +1,7 @@
 -- What the codes with parameters compute, in the definitions' words. Assumes nothing.
 use Prim.Native.Nat.{ℕ, _+_, _-_, _≤_, _<_, min}
-use mathlib.Core.Path.{_≡_, sym, ap, _∙_, subst}
-use mathlib.Core.Bool.{Bool, true, _&&_}
+use mathlib.Core.Path.{_≡_, refl, sym, ap, _∙_, subst}
+use mathlib.Core.Bool.{Bool, true, false, cond, _&&_}
 use native.Mathlib.Omega.{arith}
 use lib.Dec.{leb, ltb}
 use borrow.Author.Tests.{leb-true}
@@ -13,6 +13,7 @@ use Rattle.port.specs.declared.View.{View}
 use Rattle.port.specs.State.{cursorAt}
 use Rattle.port.specs.Effect.{moveEdit}
 use Rattle.port.specs.Codes.{setVertical, setHorizontal, gotoXY, inOffsetRange, resize}
+use Rattle.view.specs.Place.{offsetFrom}
 
 -- $05: 256 is no byte, so the code takes from 255 and adds one
 pub back-by : {e : Edit} (v : View) (b : ℕ) → b < 256 → e ≡ moveEdit v (Left (255 - b + 1)) → e ≡ moveEdit v (Left (256 - b))
@@ -22,8 +23,22 @@ back-by v b h p = p ∙ ap (λ (n : ℕ). moveEdit v (Left n)) (omega arith)
 pub clamped : (low high n m : ℕ) → low ≤ high → m ≡ min n (high - low) → low + m ≡ min (low + n) high
 clamped low high n m h p = omega arith
 
-pub placed : {u : View} (v : View) (x y x′ y′ : ℕ) → u ≡ cursorAt v x y → x ≡ x′ → y ≡ y′ → u ≡ cursorAt v x′ y′
-placed v x y x′ y′ e p q = cc
+-- a cursor that is placed by a number is placed as the definition says: where the parameter is ignored, the view is as it was
+pub line-placed : {u : View} (v : View) (b y : ℕ) → u ≡ cursorAt v (v .column) y → y ≡ offsetFrom (v .viewport .top) (v .viewport .bottom) (v .line) b → u ≡ setVertical v b
+unfolding setVertical offsetFrom
+line-placed v b y e p = e ∙ ap (cursorAt v (v .column)) p ∙ chosen (ltb b 32)
+  where
+    chosen : (t : Bool) → cursorAt v (v .column) (cond t (v .line) (min (v .viewport .top + (b - 32)) (v .viewport .bottom))) ≡ cond t v (cursorAt v (v .column) (min (v .viewport .top + (b - 32)) (v .viewport .bottom)))
+    chosen true = refl
+    chosen false = refl
+
+pub column-placed : {u : View} (v : View) (b x : ℕ) → u ≡ cursorAt v x (v .line) → x ≡ offsetFrom (v .viewport .left) (v .viewport .right) (v .column) b → u ≡ setHorizontal v b
+unfolding setHorizontal offsetFrom
+column-placed v b x e p = e ∙ ap (λ (n : ℕ). cursorAt v n (v .line)) p ∙ chosen (ltb b 32)
+  where
+    chosen : (t : Bool) → cursorAt v (cond t (v .column) (min (v .viewport .left + (b - 32)) (v .viewport .right))) (v .line) ≡ cond t v (cursorAt v (min (v .viewport .left + (b - 32)) (v .viewport .right)) (v .line))
+    chosen true = refl
+    chosen false = refl
 
 -- $02: 32 can be taken from a parameter that is in range
 pub offset-fits : (n : ℕ) (t : Bool) → t ≡ inOffsetRange n → t ≡ true → 32 ≤ n

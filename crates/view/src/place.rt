@@ -14,6 +14,7 @@ ghost use Prim.Native.Nat.{_≤_, max};
 ghost use Rattle.rectangle.specs.Rectangles.{OnScreen};
 ghost use Rattle.port.specs.Codes.{horizontalScroll, setVertical, setHorizontal, gotoXY, homeCursor, inOffsetRange, nearestInside, resize, setPortSize};
 ghost use Rattle.view.specs.Plan.{effectOf};
+ghost use Rattle.view.specs.Place.{offsetFrom};
 
 // $05: a signed byte. 1 to 127 shifts right, 128 to 255 left by 256 less it.
 pub fn horizontal_scroll(v: View, b: u8) -> Moved
@@ -28,20 +29,25 @@ pub fn horizontal_scroll(v: View, b: u8) -> Moved
     once(v, move_cells(v, Motion::Left(255 - b + 1)))
 }
 
+// The line or column from low to high that a parameter names: + 32, and past the last the last. Below 32 it names none, and the cursor's own stays.
+// A number and not a view, so that a view is changed in one place only.
+fn offset_from(low: u8, high: u8, own: u8, b: u8) -> u8
+    requires { ⌜ low ≤ high ⌝ }
+    ensures { λ r. ⌜ r ≡ offsetFrom low high own b ⌝ }
+{
+    if b < 32 {
+        return own;
+    }
+    low + least(b - 32, high - low)
+}
+
 // $06: a line of the viewport + 32.
 pub fn set_vertical(v: View, b: u8) -> View
     requires { ⌜ OnScreen (v .viewport) ⌝ }
     ensures { λ r. ⌜ r ≡ setVertical v b ⌝ }
 {
-    if b < 32 {
-        return v;
-    }
     let port = v.viewport;
-    cursor_at(
-        v,
-        v.column,
-        port.top + least(b - 32, port.bottom - port.top),
-    )
+    cursor_at(v, v.column, offset_from(port.top, port.bottom, v.line, b))
 }
 
 // $14: a column of the viewport + 32.
@@ -49,11 +55,8 @@ pub fn set_horizontal(v: View, b: u8) -> View
     requires { ⌜ OnScreen (v .viewport) ⌝ }
     ensures { λ r. ⌜ r ≡ setHorizontal v b ⌝ }
 {
-    if b < 32 {
-        return v;
-    }
     let port = v.viewport;
-    cursor_at(v, port.left + least(b - 32, port.right - port.left), v.line)
+    cursor_at(v, offset_from(port.left, port.right, v.column, b), v.line)
 }
 
 fn in_offset_range(b: u8) -> bool

@@ -13,7 +13,7 @@ use Rattle.rectangle.specs.Rectangles.{widthOf, heightOf}
 use Rattle.block.specs.Block.{blockLength, blockFits, blockOf, restored}
 use Rattle.port.specs.declared.Port.{Port}
 use Rattle.port.specs.Stream.{stream}
-use Rattle.executor.specs.Carry.{Carried}
+use Rattle.printer.specs.Carry.{Carried}
 use Rattle.reply.specs.declared.Status.the-variants.{Done, BlockTooShort, BlockMismatch}
 use Rattle.reply.specs.Reply.{Replies}
 use Rattle.calls.specs.declared.Answer.{Answer}

@@ -8,6 +8,7 @@ use calls::screen_judgement;
 use port::Port;
 use port::state::fresh_port;
 use port::valid::valid_port;
+use port::valid::valid_port_inlined;
 use rectangle::Rect;
 use rectangle::height;
 use reply::Status;
@@ -51,6 +52,22 @@ fn judge(p: Port, length: usize) -> Judged
     }
 }
 
+// Both refusals for the one-byte call alone, inlined there with `valid_port_inlined`.
+fn judge_inlined(p: Port, length: usize) -> Judged
+    ensures { λ r. ⌜ r ≡ judgement p length ⌝ }
+{
+    let on_screen = screen_judgement(length);
+    match on_screen {
+        Judged::Refused(status) => Judged::Refused(status),
+        Judged::Accepted => {
+            if valid_port_inlined(p) {
+                return Judged::Accepted;
+            }
+            Judged::Refused(Status::Invalid)
+        }
+    }
+}
+
 // Obeys a stream: each byte does what paper 01's tables say. The count is of the bells that it rang.
 pub fn write(p: Port, screen: &mut [u8], bytes: &[u8]) -> Answer
     ensures { λ r. ⌜ Replies (writeCall p (now (screen .entry)) (now (bytes .entry))) (r .status) (r .port) (r .count) (now (screen .exit)) (now (bytes .entry)) ⌝ }
@@ -66,7 +83,7 @@ pub fn write(p: Port, screen: &mut [u8], bytes: &[u8]) -> Answer
 pub fn write_byte(p: Port, screen: &mut [u8], byte: u8) -> Answer
     ensures { λ r. ⌜ Replies (writeCall p (now (screen .entry)) (byte ∷ [])) (r .status) (r .port) (r .count) (now (screen .exit)) (byte ∷ []) ⌝ }
 {
-    let judged = judge(p, screen.len());
+    let judged = judge_inlined(p, screen.len());
     match judged {
         Judged::Refused(status) => answer_of(status, p, 0),
         Judged::Accepted => calls::write_byte(p, screen, byte),

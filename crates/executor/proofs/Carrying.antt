@@ -1,67 +1,38 @@
--- A plan is carried out, a byte, and a stream byte after byte. Assumes nothing.
+-- The loop over a stream. Assumes nothing.
 use Prim.Native.Nat.{ℕ, zero, suc, _+_, _≤_, _<_}
 use mathlib.Core.Path.{_≡_, refl, sym, ap, _∙_, subst}
-use mathlib.Core.Bool.{Bool, true, false, cond, _&&_}
-use mathlib.Core.Logic.{⊎-elim}
+use mathlib.Core.Bool.{Bool, true, false, cond, _&&_, _||_, true≢false}
+use mathlib.Core.Logic.{_⊎_, inl, inr, ⊎-elim}
 use mathlib.Core.List.{List, [], _∷_, _++_}
 use native.Mathlib.Omega.{arith}
 use native.Mathlib.Nat.{add-assoc, add-zero, zero-add}
-use native.Mathlib.Numerals.{add-one}
-use lib.Dec.{leb, eqb}
-use borrow.Author.Tests.{eqb-true, eq-eqb, leb-true, leb-false}
-use lib.ListN.{length, drop, getD}
-use lib.Seq.{drop-cons}
+use lib.Dec.{leb, ltb, eqb}
+use lib.ListN.{length, take, drop, getD, take-append-drop}
+use lib.Seq.{drop-drop}
+use borrow.Author.Tests.{eqb-true, eqb-false, eq-eqb, ne-eqb, leb-true, leb-false, lt-ltb}
 use Rattle.laws.proofs.Tests.{by-test, and-left, and-right}
 use Rattle.rectangle.specs.Edit.{draw}
-use Rattle.rectangle.proofs.Local.{draw-append}
-use Rattle.charset.specs.declared.Mode.{Mode}
+use Rattle.screen.proofs.Runs.{alone-taken}
 use Rattle.charset.specs.Stored.{storedByte}
 use Rattle.port.specs.declared.View.{View}
 use Rattle.port.specs.declared.Port.{Port}
 use Rattle.port.specs.State.{withView}
 use Rattle.port.specs.Valid.{parameters, Valid}
-use Rattle.port.specs.Codes.{modeOf, printByte, print, spaces}
-use Rattle.port.specs.Step.{Outcome, onView, step}
+use Rattle.port.specs.Codes.{modeOf, printByte}
+use Rattle.port.specs.Step.{Outcome, becomesPort, pop, control, step}
 use Rattle.port.specs.Stream.{stream}
-use Rattle.port.proofs.Steps.{keeps-step}
-use Rattle.port.proofs.Bells.{one-bell}
-use Rattle.port.proofs.Prints.{step-prints}
-use Rattle.view.specs.Plan.{changeList}
-use Rattle.planner.specs.declared.Plan.{Plan}
-use Rattle.planner.specs.Plan.{carriedOut}
-use Rattle.executor.specs.Carry.{AllOnScreen, Drew, Carried}
-use Rattle.executor.proofs.Draws.{on-screen, front-on-screen, back-on-screen, length-draw}
-
--- a plan's parts lie on the screen where all of it does
-module _ (m : Plan) (all : AllOnScreen (carriedOut m .edits)) where
-  both-on-screen : AllOnScreen (changeList (m .first) ++ changeList (m .second))
-  unfolding carriedOut
-  both-on-screen = front-on-screen (changeList (m .first) ++ changeList (m .second)) (spaces (m .spaces) (m .port .view) .edits) all
-
-  pub plan-first : AllOnScreen (changeList (m .first))
-  plan-first = front-on-screen (changeList (m .first)) (changeList (m .second)) both-on-screen
-
-  pub plan-second : AllOnScreen (changeList (m .second))
-  plan-second = back-on-screen (changeList (m .first)) (changeList (m .second)) both-on-screen
-
-  pub plan-spaces : AllOnScreen (spaces (m .spaces) (m .port .view) .edits)
-  unfolding carriedOut
-  plan-spaces = back-on-screen (changeList (m .first) ++ changeList (m .second)) (spaces (m .spaces) (m .port .view) .edits) all
-
--- the edits, then the spaces
-pub plan-carried : (m : Plan) (s s₁ s₂ t : List ℕ) (w : View) (q : Port) (n : ℕ) → s₁ ≡ draw (changeList (m .first)) s → s₂ ≡ draw (changeList (m .second)) s₁
-    → Drew (spaces (m .spaces) (m .port .view)) w s₂ t
-    → q ≡ withView (m .port) w
-    → n ≡ cond (m .bell) 1 0
-    → Carried (carriedOut m) q n s t
-unfolding carriedOut
-plan-carried m s s₁ s₂ t w q n one two d port bells = record {
-  port-is = port ∙ ap (withView (m .port)) (d .view);
-  bells-are = bells;
-  cells =
-      d .cells ∙ ap (draw (spaces (m .spaces) (m .port .view) .edits)) (two ∙ ap (draw (changeList (m .second))) one ∙ sym (draw-append (changeList (m .first)) (changeList (m .second)) s))
-      ∙ sym (draw-append (changeList (m .first) ++ changeList (m .second)) (spaces (m .spaces) (m .port .view) .edits) s);
-}
+use Rattle.port.proofs.Validity.{no-parameters}
+use Rattle.port.proofs.Streams.{keeps-stream}
+use Rattle.port.proofs.Bells.{step-bells, one-bell}
+use Rattle.printer.specs.Carry.{Drew, Carried}
+use Rattle.printer.specs.Print.{Placed, Printed}
+use Rattle.printer.proofs.Draws.{length-draw}
+use Rattle.printer.proofs.Codes.{cut-carried, nothing-carried, single-carried, code-carried}
+use Rattle.control.specs.declared.active.Active.{Active}
+use Rattle.control.specs.Active.{activeOf, withActive}
+use Rattle.control.specs.Active as active
+use Rattle.control.specs.Obey.{Obeyed}
+use Rattle.control.proofs.Arms.{step-controls}
 
 -- the cells stay 1,920
 pub same-size : {m : Outcome} {q : Port} {n : ℕ} {s t : List ℕ} → Carried m q n s t → length s ≡ 1920 → length t ≡ length s
@@ -83,47 +54,88 @@ pub few-gathered : (p : Port) → Valid p → p .count < 4
 few-gathered p h =
     ⊎-elim (λ e. let k = h .wait .none e in omega arith) (λ some. let k = h .wait .fewer some in omega (arith, at-most-four (p .waiting))) (h .wait .known)
 
-pub stored-as : {x : ℕ} (v : View) (mode : Mode) (code : ℕ) → x ≡ storedByte mode code → mode ≡ modeOf v → x ≡ storedByte (modeOf v) code
-stored-as v mode code e k = e ∙ ap (λ (z : Mode). storedByte z code) k
+pub placed-view : (p : Port) → Valid p → Placed (p .view)
+placed-view p h = let v = h .view in record { legal = v .legal; within = omega arith; from-left = v .from-left; to-right = v .to-right; from-top = v .from-top; to-bottom = v .to-bottom }
 
-step-on-screen : (p : Port) → Valid p → (b : ℕ) → AllOnScreen (step p b .edits)
-step-on-screen p h b = on-screen (p .view .viewport) (h .view .legal .right-in) (h .view .legal .bottom-in) (step p b .edits) (keeps-step p h b .edits)
+pub some-wanted : (p : Port) → Valid p → (p .waiting ≡ 0 → ⊥) → 0 < parameters (p .waiting)
+some-wanted p h waits = ⊎-elim (λ e. absurd (waits e)) (λ some. some) (h .wait .known)
 
--- a byte by its plan
-module _ (p : Port) (b : ℕ) (m : Plan) (plan : carriedOut m ≡ step p b) where
-  pub plan-on-screen : Valid p → AllOnScreen (carriedOut m .edits)
-  plan-on-screen h = subst (λ (o : Outcome). AllOnScreen (o .edits)) (sym plan) (step-on-screen p h b)
+-- what the tests of the code show: a printing code, $01 or $04, or another control code
+pub is-printed : (waiting b : ℕ) (test : Bool) → test ≡ (eqb waiting 0 && leb 32 b) → test ≡ true → (waiting ≡ 0) × (32 ≤ b)
+is-printed waiting b test is t =
+    let both = sym is ∙ t in
+    (eqb-true waiting 0 (and-left (eqb waiting 0) (leb 32 b) both), leb-true 32 b (and-right (eqb waiting 0) (leb 32 b) both))
 
-  pub byte-carried : (q : Port) (n : ℕ) (s t : List ℕ) → Carried (carriedOut m) q n s t → Carried (step p b) q n s t
-  byte-carried q n s t d = subst (λ (o : Outcome). Carried o q n s t) plan d
+is-either : (b : ℕ) → (eqb b 1 || eqb b 4) ≡ true → (b ≡ 1) ⊎ (b ≡ 4)
+is-either b t = by (eqb b 1) (eqb b 4) (eqb-true b 1) (eqb-true b 4) t
+  where
+    by : (x y : Bool) → (x ≡ true → b ≡ 1) → (y ≡ true → b ≡ 4) → (x || y) ≡ true → (b ≡ 1) ⊎ (b ≡ 4)
+    by true y one four e = inl (one refl)
+    by false y one four e = inr (four e)
 
--- what the test for a printing code shows, `(waiting == 0) & (32 <= b)`
-is-printed : (p : Port) (b : ℕ) → (eqb (p .waiting) 0 && leb 32 b) ≡ true → (p .waiting ≡ 0) × (32 ≤ b)
-is-printed p b t = (eqb-true (p .waiting) 0 (and-left (eqb (p .waiting) 0) (leb 32 b) t), leb-true 32 b (and-right (eqb (p .waiting) 0) (leb 32 b) t))
+pub is-saved : (waiting b : ℕ) (test : Bool) → test ≡ (eqb waiting 0 && (eqb b 1 || eqb b 4)) → test ≡ true → (waiting ≡ 0) × ((b ≡ 1) ⊎ (b ≡ 4))
+is-saved waiting b test is t =
+    let both = sym is ∙ t in
+    (eqb-true waiting 0 (and-left (eqb waiting 0) (eqb b 1 || eqb b 4) both), is-either b (and-right (eqb waiting 0) (eqb b 1 || eqb b 4) both))
 
--- a printing code, where nothing waits
-module _ (p : Port) (code byte : ℕ) (test : (eqb (p .waiting) 0 && leb 32 code) ≡ true) (is : byte ≡ storedByte (modeOf (p .view)) code) where
-  prints-byte : step p code ≡ onView p (printByte (p .view) byte)
-  unfolding print
-  prints-byte = let h = is-printed p code test in step-prints p code (h .0) (h .1) ∙ ap (λ (x : ℕ). onView p (printByte (p .view) x)) (sym is)
+neither : (b : ℕ) → (eqb b 1 || eqb b 4) ≡ false → (b ≡ 1 → ⊥) × (b ≡ 4 → ⊥)
+neither b t = by (eqb b 1) (eqb b 4) (eqb-false b 1) (eqb-false b 4) t
+  where
+    by : (x y : Bool) → (x ≡ false → b ≡ 1 → ⊥) → (y ≡ false → b ≡ 4 → ⊥) → (x || y) ≡ false → (b ≡ 1 → ⊥) × (b ≡ 4 → ⊥)
+    by true y one four e = absurd (true≢false e)
+    by false y one four e = (one refl, four e)
 
-  pub code-on-screen : Valid p → AllOnScreen (printByte (p .view) byte .edits)
-  code-on-screen h = subst (λ (o : Outcome). AllOnScreen (o .edits)) prints-byte (step-on-screen p h code)
+pub is-controlled : (waiting b : ℕ) (printed saved : Bool) → printed ≡ (eqb waiting 0 && leb 32 b) → printed ≡ false → saved ≡ (eqb waiting 0 && (eqb b 1 || eqb b 4)) → saved ≡ false
+    → waiting ≡ 0
+    → (b < 32) × (b ≡ 1 → ⊥) × (b ≡ 4 → ⊥)
+is-controlled waiting b printed saved is f is′ f′ none =
+    let other = neither b (rw (eq-eqb waiting 0 none) at (sym is′ ∙ f′)) in
+    (leb-false 32 b (rw (eq-eqb waiting 0 none) at (sym is ∙ f)), other .0, other .1)
 
-  pub code-carried : (q : Port) (w : View) (s t : List ℕ) → Drew (printByte (p .view) byte) w s t → q ≡ withView p w → Carried (step p code) q 0 s t
-  code-carried q w s t d port =
-      subst (λ (o : Outcome). Carried o q 0 s t) (sym prints-byte) (record { port-is = port ∙ ap (withView p) (d .view); bells-are = refl; cells = d .cells })
+-- the bells of a byte by the code's own test: where a command waits it wants a parameter
+rung-by : (p : Port) (b : ℕ) → Valid p → {n : ℕ} → n ≡ cond (eqb (p .waiting) 0 && eqb b 7) 1 0 → n ≡ step p b .bells
+unfolding parameters
+rung-by p b h {n} is = ⊎-elim nothing something (h .wait .known) ∙ sym (step-bells p b)
+  where
+    By : ℕ → Type 0
+    By w = n ≡ cond (ltb 0 (parameters w)) 0 (cond (eqb b 7) 1 0)
 
--- by the code's own test
-module _ (p : Port) (b : ℕ) (test : Bool) (is : test ≡ (eqb (p .waiting) 0 && leb 32 b)) where
-  pub passed : test ≡ true → (eqb (p .waiting) 0 && leb 32 b) ≡ true
-  passed t = sym is ∙ t
+    nothing : p .waiting ≡ 0 → By (p .waiting)
+    nothing none = subst By (sym none) (subst (λ (w : ℕ). n ≡ cond (eqb w 0 && eqb b 7) 1 0) none is)
 
-  pub not-printed : Valid p → test ≡ false → parameters (p .waiting) ≤ 0 → b < 32
-  not-printed h t few =
-      ⊎-elim (λ e. leb-false 32 b (rw (eq-eqb (p .waiting) 0 e) at (sym is ∙ t))) (λ some. absurd (omega arith)) (h .wait .known)
+    something : 0 < parameters (p .waiting) → By (p .waiting)
+    something some =
+        simp (lt-ltb 0 (parameters (p .waiting)) some) (rw (ne-eqb (p .waiting) 0 (λ e. no-parameters (p .waiting) e some)) at is)
 
--- the loop over a stream: what is left of it, done from here, is what was asked
+pub at-most-one : (waiting b : ℕ) {n : ℕ} → n ≡ cond (eqb waiting 0 && eqb b 7) 1 0 → n ≤ 1
+at-most-one waiting b {n} is = subst (λ (k : ℕ). k ≤ 1) (sym is) (by-test (λ (k : ℕ). k ≤ 1) (eqb waiting 0 && eqb b 7) (λ _. omega arith) (λ _. omega arith))
+
+-- the port in an equal view
+pub in-view : {q : Port} (p : Port) (u v : View) → q ≡ withView p u → u ≡ v → q ≡ withView p v
+in-view p u v e f = e ∙ ap (withView p) f
+
+-- $01 or $04: none else is saved
+pub other-saves : (code : ℕ) → (code ≡ 1) ⊎ (code ≡ 4) → (code ≡ 1 → ⊥) → code ≡ 4
+other-saves code either other = ⊎-elim (λ e. absurd (other e)) (λ e. e) either
+
+pub saves-as : {r q : Port} (p : Port) (code k : ℕ) → code ≡ k → r ≡ q → becomesPort q ≡ control p k → becomesPort r ≡ control p code
+saves-as p code k e same h = ap becomesPort same ∙ h ∙ ap (control p) (sym e)
+
+pub saving-keeps-home : (p next : Port) (code : ℕ) → becomesPort next ≡ control p code → (code ≡ 1) ⊎ (code ≡ 4) → next .home ≡ p .home
+unfolding control pop
+saving-keeps-home p next code saves either =
+    ⊎-elim (λ e. ap (λ (m : Outcome). m .port .home) (saves ∙ ap (control p) e)) (λ e. ap (λ (m : Outcome). m .port .home) (saves ∙ ap (control p) e)) either
+
+-- a printing code alone
+pub single-printed : (p : Port) (b byte : ℕ) (test : Bool) {q : Port} {w : View} {s t : List ℕ} → test ≡ (eqb (p .waiting) 0 && leb 32 b) → test ≡ true → byte ≡ storedByte (modeOf (p .view)) b
+    → Drew (printByte (p .view) byte) w s t
+    → q ≡ withView p w
+    → Carried (stream p (b ∷ [])) q 0 s t
+single-printed p b byte test {q} {w} {s} {t} is yes′ stored drew to =
+    let printed = is-printed (p .waiting) b test is yes′ in
+    subst (λ (x : Port). Carried (stream p (b ∷ [])) x 0 s t) (sym to) (single-carried p (withView p w) b 0 s t (code-carried p b byte (printed .0) (printed .1) stored w s t drew))
+
+-- ---- the loop: what is left of the stream, done from here, is what was asked
 pub record Streaming (p₀ : Port) (bs s₀ : List ℕ) (i : ℕ) (p : Port) (rung : ℕ) (s : List ℕ) : Type 0 where
   pub long : length s ≡ 1920
   pub valid : Valid p
@@ -131,19 +143,8 @@ pub record Streaming (p₀ : Port) (bs s₀ : List ℕ) (i : ℕ) (p : Port) (ru
   pub few : rung ≤ i
   pub rest : (q : Port) (n : ℕ) (t : List ℕ) → Carried (stream p (drop i bs)) q n s t → Carried (stream p₀ bs) q (rung + n) s₀ t
 
-pub streaming-starts : (p : Port) (bs s : List ℕ) → Valid p → length s ≡ 1920 → Streaming p bs s 0 p 0 s
-streaming-starts p bs s h len = record { long = len; valid = h; within = omega arith; few = omega arith; rest = λ q n t d. record { port-is = d .port-is; bells-are = zero-add n ∙ d .bells-are; cells = d .cells } }
-
--- one byte, and then what is left
-first-then : (p q r : Port) (b k n : ℕ) (bs s s₁ t : List ℕ) → Carried (step p b) q k s s₁ → Carried (stream q bs) r n s₁ t → Carried (stream p (b ∷ bs)) r (k + n) s t
-unfolding stream
-first-then p q r b k n bs s s₁ t d e = record {
-  port-is = e .port-is ∙ ap (λ (x : Port). stream x bs .port) (d .port-is);
-  bells-are = (λ i. d .bells-are i + e .bells-are i) ∙ ap (λ (x : Port). step p b .bells + stream x bs .bells) (d .port-is);
-  cells =
-      e .cells ∙ ap (λ (x : Port). draw (stream x bs .edits) s₁) (d .port-is) ∙ ap (draw (stream (step p b .port) bs .edits)) (d .cells)
-      ∙ sym (draw-append (step p b .edits) (stream (step p b .port) bs .edits) s);
-}
+pub streaming-starts : (p : Port) (bs s : List ℕ) {a : Active} → Valid p → length s ≡ 1920 → a ≡ activeOf p → Streaming p bs s 0 (withActive p a) 0 s
+streaming-starts p bs s h len is = subst (λ (x : Active). Streaming p bs s 0 (withActive p x) 0 s) (sym is) (record { long = len; valid = h; within = omega arith; few = omega arith; rest = λ q n t d. record { port-is = d .port-is; bells-are = zero-add n ∙ d .bells-are; cells = d .cells } })
 
 -- nothing is left
 drop-all : (bs : List ℕ) (i : ℕ) → length bs ≤ i → drop i bs ≡ []
@@ -152,29 +153,60 @@ drop-all [] (suc i) h = refl
 drop-all (b ∷ bs) zero h = absurd (omega arith)
 drop-all (b ∷ bs) (suc i) h = drop-all bs i (omega arith)
 
-nothing-left : (p : Port) (s : List ℕ) → Carried (stream p []) p 0 s s
-unfolding stream draw
-nothing-left p s = record { port-is = refl; bells-are = refl; cells = refl }
-
--- a stream of one byte
-pub single-carried : (p q : Port) (b n : ℕ) (s t : List ℕ) → Carried (step p b) q n s t → Carried (stream p (b ∷ [])) q n s t
-single-carried p q b n s t d = subst (λ (x : ℕ). Carried (stream p (b ∷ [])) q x s t) (add-zero n) (first-then p q q b n 0 [] s t t d (nothing-left q t))
-
 module _ {p₀ : Port} {bs s₀ : List ℕ} {i : ℕ} {p : Port} {rung : ℕ} {s : List ℕ} (r : Streaming p₀ bs s₀ i p rung s) where
-  pub streaming-again : (q : Port) (k : ℕ) (t : List ℕ) → i < length bs → Carried (step p (getD bs i 0)) q k s t → Streaming p₀ bs s₀ (i + 1) q (rung + k) t
-  streaming-again q k t more d = record {
+  -- n bytes, which ring k times
+  pub streaming-on : (q : Port) (n k : ℕ) (t : List ℕ) → i + n ≤ length bs → k ≤ n → Carried (stream p (take n (drop i bs))) q k s t → Streaming p₀ bs s₀ (i + n) q (rung + k) t
+  streaming-on q n k t inside few d = record {
     long = same-size d (r .long) ∙ r .long;
-    valid = subst Valid (sym (d .port-is)) (keeps-step p (r .valid) (getD bs i 0) .valid);
+    valid = subst Valid (sym (d .port-is)) (keeps-stream p (r .valid) (take n (drop i bs)) .valid);
     within = omega arith;
-    few = let one = one-bell p (getD bs i 0) in let h = r .few in let e = d .bells-are in omega arith;
-    rest = λ w n u e.
-        subst (λ (x : ℕ). Carried (stream p₀ bs) w x s₀ u) (sym (add-assoc rung k n))
-        (r .rest w (k + n) u
-        (subst (λ (x : List ℕ). Carried (stream p x) w (k + n) s u) (sym (drop-cons bs i 0 more))
-        (first-then p q w (getD bs i 0) k n (drop (suc i) bs) s t u d (subst (λ (x : ℕ). Carried (stream q (drop x bs)) w n t u) (add-one i) e))));
+    few = let h = r .few in omega arith;
+    rest = λ w m u e.
+        subst (λ (x : ℕ). Carried (stream p₀ bs) w x s₀ u) (sym (add-assoc rung k m))
+        (r .rest w (k + m) u
+        (subst (λ (x : List ℕ). Carried (stream p x) w (k + m) s u) (ap (λ (x : List ℕ). take n (drop i bs) ++ x) (sym (drop-drop n i bs)) ∙ take-append-drop n (drop i bs))
+        (cut-carried p q w (take n (drop i bs)) (drop (i + n) bs) k m s t u d e)));
   }
+
+  pub streaming-again : (q : Port) (k : ℕ) (t : List ℕ) → i < length bs → Carried (step p (getD bs i 0)) q k s t → Streaming p₀ bs s₀ (i + 1) q (rung + k) t
+  streaming-again q k t more d =
+      let one = one-bell p (getD bs i 0) in
+      let is = d .bells-are in
+      streaming-on q 1 k t (omega arith) (omega arith)
+      (subst (λ (x : List ℕ). Carried (stream p x) q k s t) (sym (alone-taken bs i more)) (single-carried p q (getD bs i 0) k s t d))
 
   pub streaming-ends : length bs ≤ i → Carried (stream p₀ bs) p rung s₀ s
   streaming-ends past =
       subst (λ (x : ℕ). Carried (stream p₀ bs) p x s₀ s) (add-zero rung)
-      (r .rest p 0 s (subst (λ (x : List ℕ). Carried (stream p x) p 0 s s) (sym (drop-all bs i past)) (nothing-left p s)))
+      (r .rest p 0 s (subst (λ (x : List ℕ). Carried (stream p x) p 0 s s) (sym (drop-all bs i past)) (nothing-carried p s)))
+
+-- ---- the three ways through the loop, from a port whose active part is carried apart
+module _ {p₀ : Port} {bs s₀ : List ℕ} {i : ℕ} (p : Port) (a : Active) {rung : ℕ} {s : List ℕ} (r : Streaming p₀ bs s₀ i (withActive p a) rung s) where
+  silent : (q : Port) (n : ℕ) (t : List ℕ) → i + n ≤ length bs → Carried (stream (withActive p a) (take n (drop i bs))) q 0 s t → Streaming p₀ bs s₀ (i + n) q rung t
+  silent q n t inside d = subst (λ (x : ℕ). Streaming p₀ bs s₀ (i + n) q x t) (add-zero rung) (streaming-on r q n 0 t inside (omega arith) d)
+
+  pub after-printing : (n : ℕ) (w : View) (t : List ℕ) {a′ : Active} → Printed (a .view) (take n (drop i bs)) w s t → i + n ≤ length bs → a .waiting ≡ 0 → a′ ≡ active.withView a w
+      → Streaming p₀ bs s₀ (i + n) (withActive p a′) rung t
+  after-printing n w t printed inside none is =
+      subst (λ (x : Active). Streaming p₀ bs s₀ (i + n) (withActive p x) rung t) (sym is)
+      (silent (withView (withActive p a) w) n t inside (printed .as-stream (withActive p a) refl none))
+
+  pub after-saving : (q : Port) {next : Port} {a′ : Active} → q ≡ withActive p a → becomesPort next ≡ control q (getD bs i 0) → a′ ≡ activeOf next → i < length bs → a .waiting ≡ 0 → (getD bs i 0 ≡ 1) ⊎ (getD bs i 0 ≡ 4)
+      → Streaming p₀ bs s₀ (i + 1) (withActive next a′) rung s
+  unfolding draw
+  after-saving q {next} joined saves split more none code =
+      let b : ℕ = getD bs i 0 in
+      let small : b < 32 = ⊎-elim (λ e. omega arith) (λ e. omega arith) code in
+      let outcome : becomesPort next ≡ step (withActive p a) b = saves ∙ ap (λ (x : Port). control x b) joined ∙ sym (step-controls (withActive p a) b none small) in
+      let carried : Carried (step (withActive p a) b) next 0 s s = subst (λ (m : Outcome). Carried m next 0 s s) outcome (record { port-is = refl; bells-are = refl; cells = refl }) in
+      subst (λ (x : Active). Streaming p₀ bs s₀ (i + 1) (withActive next x) rung s) (sym split)
+      (subst (λ (x : ℕ). Streaming p₀ bs s₀ (i + 1) next x s) (add-zero rung) (streaming-again r next 0 s more carried))
+
+  pub after-control : (k : ℕ) (t : List ℕ) {a′ : Active} → Obeyed (step (withActive p a) (getD bs i 0)) (withActive p a′) s t → k ≡ cond (eqb (a .waiting) 0 && eqb (getD bs i 0) 7) 1 0 → i < length bs
+      → Streaming p₀ bs s₀ (i + 1) (withActive p a′) (rung + k) t
+  after-control k t obeyed bells more =
+      streaming-again r _ k t more (record { port-is = obeyed .port-is; bells-are = rung-by (withActive p a) (getD bs i 0) (r .valid) bells; cells = obeyed .cells })
+
+-- in the end the active part is put back
+pub joined-again : {m : Outcome} {q r : Port} {n : ℕ} {s t : List ℕ} → Carried m q n s t → r ≡ q → Carried m r n s t
+joined-again {m} {q} {r} {n} {s} {t} d is = subst (λ (x : Port). Carried m x n s t) (sym is) d

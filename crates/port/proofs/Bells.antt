@@ -124,7 +124,11 @@ stepped p b = record { rung = rung-by (wants (waitOf p)); waits = waits-by (want
     waits-by true = gathered p b .waits
     waits-by false = obeyed p b .waits
 
--- a byte rings at most one bell
+-- a byte rings where it is $07 and no parameter
+pub step-bells : (p : Port) (b : ℕ) → step p b .bells ≡ cond (wants (waitOf p)) 0 (cond (eqb b 7) 1 0)
+step-bells p b = stepped p b .rung
+
+-- so at most one bell
 pub one-bell : (p : Port) (b : ℕ) → step p b .bells ≤ 1
 one-bell p b =
     rw (stepped p b .rung)

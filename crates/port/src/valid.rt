@@ -99,6 +99,16 @@ pub fn valid_port(p: Port) -> bool
         & (valid_saved(p.home, p.hassaved, p.saved) & valid_wait(p.waiting, gathered, p.count))
 }
 
+// The same, for the one-byte call alone: the compiler inlines a function that has one caller.
+// A port that is judged where it is kept in registers is not copied to memory for each byte.
+pub fn valid_port_inlined(p: Port) -> bool
+    ensures { λ b. ⌜ b ≡ rules.valid p ⌝ }
+{
+    let gathered = p.gathered;
+    (legal(p.home) & valid_view(p.home, p.view))
+        & (valid_saved(p.home, p.hassaved, p.saved) & valid_wait(p.waiting, gathered, p.count))
+}
+
 // Every field 0 or false.
 pub fn is_zero_port(p: Port) -> bool
     ensures { λ b. ⌜ b ≡ rules.isZeroPort p ⌝ }

@@ -1,5 +1,7 @@
 // The screen of paper 01, 'Screen and port': 1,920 bytes, 24 lines of 80 columns, line 0 first, column 0 first.
-// The loops that read or write its cells: an edit clears, scrolls or shifts one rectangle of it, and neighbouring cells are copied out and in. No other crate of the library indexes it.
+// The loops that read or write its cells: an edit clears, scrolls or shifts one rectangle of it, neighbouring cells are copied out and in, and a run of printing codes is stored. No other crate of the library indexes it.
+use charset::Mode;
+use charset::stored_byte;
 use rectangle::Edit;
 use rectangle::Motion;
 use rectangle::Rect;
@@ -10,8 +12,10 @@ ghost use mathlib.Core.List.{[]};
 ghost use lib.ListN.{length, take, drop};
 ghost use Rattle.rectangle.specs.Cells.{cellIndex};
 ghost use Rattle.rectangle.specs.Rectangles.{OnScreen, cellAt};
+ghost use Rattle.charset.specs.Stored.{Agrees};
 ghost use Rattle.screen.specs.Size.{isScreen};
 ghost use Rattle.screen.specs.Rewrite.{Filled, Relocated, Copied};
+ghost use Rattle.screen.specs.Run.{RunStored};
 ghost use Rattle.rectangle.specs.Edit.{edited};
 
 // Whether lent bytes are a screen, by their number: refusal 1 of every call that takes one.
@@ -82,6 +86,58 @@ pub fn write_cells(
     ensures { λ _. ⌜ Copied (now (block .entry)) at (cellIndex column line) count (now (screen .entry)) (now (screen .exit)) ⌝ }
 {
     copy_run(block, at, screen, cell_index(column, line), count);
+}
+
+// Codes from place from on are stored in cells of a line, from column on. They end at the first control code, or where there is no more room. Returns their number.
+fn store_codes(
+    screen: &mut [u8],
+    column: usize,
+    line: usize,
+    table: &[u8; 768],
+    mode: Mode,
+    bytes: &[u8],
+    from: usize,
+    room: usize,
+) -> usize
+    requires { ⌜ (column + room ≤ 80) × (line ≤ 23) × (length (now screen) ≡ 1920) × (from + room ≤ length (now bytes)) × Agrees (now table) ⌝ }
+    ensures { λ n. ⌜ RunStored mode column line room (now (bytes .entry)) from n (now (screen .entry)) (now (screen .exit)) ⌝ }
+{
+    let mut n = 0;
+    while n < room {
+        let code = bytes[from + n];
+        if code < 32 {
+            return n;
+        }
+        screen[cell_index(column + n, line)] = stored_byte(table, mode, code);
+        n += 1;
+    }
+    n
+}
+
+// A run of printing codes: the same, where the bytes may end before the room does.
+pub fn store_run(
+    screen: &mut [u8],
+    column: usize,
+    line: usize,
+    room: usize,
+    table: &[u8; 768],
+    mode: Mode,
+    bytes: &[u8],
+    from: usize,
+) -> usize
+    requires { ⌜ (column + room ≤ 80) × (line ≤ 23) × (length (now screen) ≡ 1920) × (from ≤ length (now bytes)) × Agrees (now table) ⌝ }
+    ensures { λ n. ⌜ RunStored mode column line room (now (bytes .entry)) from n (now (screen .entry)) (now (screen .exit)) ⌝ }
+{
+    store_codes(
+        screen,
+        column,
+        line,
+        table,
+        mode,
+        bytes,
+        from,
+        least(room, bytes.len() - from),
+    )
 }
 
 // Cells of a line, count of them from column on, as a part of the lent screen itself.

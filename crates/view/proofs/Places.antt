@@ -4,16 +4,16 @@ use mathlib.Core.Path.{_≡_, refl, sym, ap, _∙_, subst}
 use mathlib.Core.Bool.{Bool, true, false, cond, _&&_}
 use native.Mathlib.Omega.{arith}
 use lib.Dec.{leb, ltb}
-use borrow.Author.Tests.{leb-true}
+use borrow.Author.Tests.{leb-true, leb-false}
 use Rattle.laws.proofs.Tests.{by-test, and-left, and-right}
 use Rattle.rectangle.specs.declared.Edit.{Edit}
 use Rattle.rectangle.specs.declared.Motion.the-variants.{Left}
 use Rattle.rectangle.specs.Rectangles.{OnScreen, rectOf}
 use Rattle.port.specs.declared.View.{View}
 use Rattle.port.specs.State.{cursorAt}
-use Rattle.port.specs.Effect.{moveEdit}
-use Rattle.port.specs.Codes.{setVertical, setHorizontal, gotoXY, inOffsetRange, resize}
-use Rattle.view.specs.Place.{offsetFrom}
+use Rattle.port.specs.Effect.{becomes, moveEdit}
+use Rattle.port.specs.Codes.{setVertical, setHorizontal, gotoXY, inOffsetRange, resize, spaces, dleSpaceExpansion}
+use Rattle.view.specs.Place.{offsetFrom, spaceCount}
 
 -- $05: 256 is no byte, so the code takes from 255 and adds one
 pub back-by : {e : Edit} (v : View) (b : ℕ) → b < 256 → e ≡ moveEdit v (Left (255 - b + 1)) → e ≡ moveEdit v (Left (256 - b))
@@ -61,5 +61,29 @@ after-column v b h e = subst (λ (w : View). OnScreen (w .viewport)) (sym e) (by
 
 pub then-line : {u w : View} (v : View) (column line : ℕ) → u ≡ setHorizontal v column → w ≡ setVertical u line → w ≡ gotoXY v column line
 then-line v column line p q = q ∙ ap (λ (x : View). setVertical x line) p
+
+-- $10: what the count comes to by the code's test, `dle & (32 <= b)`, and what printing as many spaces is
+pub counted : (v : View) (b : ℕ) → (v .flags .dle && leb 32 b) ≡ true → b - 32 ≡ spaceCount v b
+unfolding spaceCount
+counted v b e = rw (and-left (v .flags .dle) (leb 32 b) e)
+
+pub counted-none : (v : View) (b : ℕ) → (v .flags .dle && leb 32 b) ≡ false → 0 ≡ spaceCount v b
+unfolding spaceCount
+counted-none v b = none (v .flags .dle)
+  where
+    none : (t : Bool) → (t && leb 32 b) ≡ false → 0 ≡ cond t (b - 32) 0
+    none true e = let small : b < 32 = leb-false 32 b e in omega arith
+    none false e = refl
+
+pub and-le : (t : Bool) (n b : ℕ) → (t && leb n b) ≡ true → n ≤ b
+and-le t n b e = leb-true n b (and-right t (leb n b) e)
+
+pub spaces-are : (v : View) (b : ℕ) → spaces (spaceCount v b) v ≡ dleSpaceExpansion v b
+unfolding dleSpaceExpansion spaces spaceCount
+spaces-are v b = chosen (v .flags .dle)
+  where
+    chosen : (t : Bool) → spaces (cond t (b - 32) 0) v ≡ cond t (spaces (b - 32) v) (becomes v)
+    chosen true = refl
+    chosen false = refl
 
 pub ruleset offsets = (offset-fits, and-left, and-right)

@@ -13,8 +13,9 @@ use rectangle::Motion;
 ghost use mathlib.Core.Path.{_≡_};
 ghost use Prim.Native.Nat.{min};
 ghost use Rattle.port.specs.Effect.{fillByte, moveEdit};
-ghost use Rattle.port.specs.Codes.{modeOf, setCursorMovement};
-ghost use Rattle.view.specs.Plan.{stillOf, onceOf};
+ghost use Rattle.port.specs.Codes.{modeOf, setCursorMovement, scrollDown, scrollUp};
+ghost use Rattle.view.specs.Plan.{effectOf, stillOf, onceOf};
+ghost use Rattle.view.specs.Place.{spaceCount};
 
 // At most one edit.
 pub enum Change {
@@ -69,6 +70,20 @@ pub fn move_cells(v: View, motion: Motion) -> Edit
     Edit { rect, motion, fill }
 }
 
+// $16.
+pub fn scroll_down(v: View) -> Moved
+    ensures { λ r. ⌜ effectOf r ≡ scrollDown v ⌝ }
+{
+    once(v, move_cells(v, Motion::Down))
+}
+
+// $17.
+pub fn scroll_up(v: View) -> Moved
+    ensures { λ r. ⌜ effectOf r ≡ scrollUp v ⌝ }
+{
+    once(v, move_cells(v, Motion::Up))
+}
+
 pub fn least(a: u8, b: u8) -> u8
     ensures { λ r. ⌜ r ≡ min a b ⌝ }
 {
@@ -86,6 +101,17 @@ pub fn mode_of(v: View) -> Mode
         return Mode::Inverse;
     }
     Mode::Normal
+}
+
+// $10: how many spaces are printed.
+pub fn space_count(v: View, b: u8) -> u8
+    ensures { λ r. ⌜ r ≡ spaceCount v b ⌝ }
+{
+    let flags = v.flags;
+    if flags.dle & (32 <= b) {
+        return b - 32;
+    }
+    0
 }
 
 // $15: bit 4 is DLE, then scroll, wrap and LF, and bit 0 is advance. The top three bits are dropped.

@@ -4,8 +4,8 @@ use Rattle.console.proofs.Replying.{acceptances, replies-refused, repli
 use Rattle.console.proofs.write_byte.Statement.{statement}
 use Rattle.console.proofs.write_byte.Tie as tie
 
-judge-requires : tie.Need-judge-requires
-judge-requires c κs = search needs
+judge-inlined-requires : tie.Need-judge-inlined-requires
+judge-inlined-requires c κs = search needs
 
 enum-known-judged : tie.Need-enum-known-judged
 enum-known-judged c = search needs
@@ -32,7 +32,7 @@ pub write-byte-spec : {M : Type 1} → statement M
 write-byte-spec =
     tie.close
     (tie.spec
-    judge-requires
+    judge-inlined-requires
     enum-known-judged
     answer-of-requires
     enum-told

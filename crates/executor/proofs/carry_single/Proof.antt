@@ -1,11 +1,13 @@
 -- `executor::carry_single` meets its contract: a printing code, or a stream of the one byte. Assumes nothing.
 use borrow.Author.Needs.{needs}
-use Rattle.executor.proofs.Carrying.{passed, stored-as, single-carried, same-size}
+use Rattle.printer.proofs.Printing.{stored-as}
+use Rattle.printer.proofs.Codes.{byte-on-screen}
+use Rattle.executor.proofs.Carrying.{placed-view, single-printed, same-size}
 use Rattle.executor.proofs.carry_single.Statement.{statement}
 use Rattle.executor.proofs.carry_single.Tie as tie
 
-is-printed-requires : tie.Need-is-printed-requires
-is-printed-requires c κs = search needs
+prints-requires : tie.Need-prints-requires
+prints-requires c κs = search needs
 
 mode-of-requires : tie.Need-mode-of-requires
 mode-of-requires c κs = search needs
@@ -13,14 +15,17 @@ mode-of-requires c κs = search needs
 stored-alone-requires : tie.Need-stored-alone-requires
 stored-alone-requires c κs = search needs
 
-carry-code-requires : tie.Need-carry-code-requires
-carry-code-requires c κs = search (stored-as, passed, needs)
+print-byte-requires : tie.Need-print-byte-requires
+print-byte-requires c κs = search (byte-on-screen, placed-view, needs)
+
+with-view-requires : tie.Need-with-view-requires
+with-view-requires c κs = search needs
 
 same-length : tie.Need-same-length
-same-length c = search same-size
+same-length c = search needs
 
 returns : tie.Need-returns
-returns c = search single-carried
+returns c = search (single-printed, stored-as, needs)
 
 slice-aggregate-carry-stream : tie.Need-slice-aggregate-carry-stream
 slice-aggregate-carry-stream c = search needs
@@ -29,19 +34,20 @@ carry-stream-requires : tie.Need-carry-stream-requires
 carry-stream-requires c κs = search needs
 
 same-length-2 : tie.Need-same-length-2
-same-length-2 c = search same-size
+same-length-2 c = search (same-size, needs)
 
 returns-2 : tie.Need-returns-2
-returns-2 c = c .before .before .carry-stream .ensures
+returns-2 c = search needs
 
 pub carry-single-spec : {M : Type 1} → statement M
 carry-single-spec =
     tie.close
     (tie.spec
-    is-printed-requires
+    prints-requires
     mode-of-requires
     stored-alone-requires
-    carry-code-requires
+    print-byte-requires
+    with-view-requires
     same-length
     returns
     slice-aggregate-carry-stream

@@ -1,57 +1,149 @@
 -- `executor::carry_stream` meets its contract: the loop keeps that what is left of the stream, done from here, is what was asked; bells so far are at most the bytes so far. Assumes nothing.
 use Prim.Native.Nat.{_-_}
-use mathlib.Core.Path.{_≡_}
+use mathlib.Core.Path.{_≡_, ap, _∙_}
 use native.Mathlib.Omega.{arith}
 use lib.ListN.{length, getD}
 use borrow.Author.Needs.{needs}
 use Rattle.charset.specs.Stored.{Agrees}
-use Rattle.port.proofs.Bells.{one-bell}
-use Rattle.executor.proofs.Carrying.{Streaming, streaming-starts, streaming-again, streaming-ends, same-size}
+use Rattle.port.specs.declared.Port.{Port}
+use Rattle.control.specs.Active.{withActive}
+use Rattle.executor.proofs.Carrying.{Streaming, streaming-starts, streaming-ends, after-printing, after-saving, after-control, same-size, is-printed, is-saved, is-controlled, at-most-one, saving-keeps-home, joined-again, placed-view, few-gathered, some-wanted}
 use Rattle.executor.proofs.carry_stream.Statement.{statement}
 use Rattle.executor.proofs.carry_stream.Tie as tie
 
 abbrev Inv-loop : tie.InvT-loop
-Inv-loop screen₀ bytes table port₀ bells₀ i₀ i-end screen port bells i = Streaming port₀ bytes screen₀ i port bells screen × (i-end ≡ length bytes) × Agrees table
+Inv-loop screen₀ bytes table home port₀ active₀ bells₀ i₀ screen port active bells i = Streaming port₀ bytes screen₀ i (withActive port active) bells screen × Agrees table × (port .home ≡ home)
 
 abbrev μ-loop : tie.MeasureT-loop
-μ-loop screen₀ bytes table port₀ bells₀ i₀ i-end screen port bells i = i-end - i
+μ-loop screen₀ bytes table home port₀ active₀ bells₀ i₀ screen port active bells i = length bytes - i
 
 table-copy-requires : tie.Need-table-copy-requires Inv-loop μ-loop
 table-copy-requires c κs = search needs
 
+active-of-requires : tie.Need-active-of-requires Inv-loop μ-loop
+active-of-requires c κs = search needs
+
 loop-holds : tie.Need-loop-holds Inv-loop μ-loop
-loop-holds c = search streaming-starts
+loop-holds c =
+    search (streaming-starts, needs)
 
-shared-slice-read-carry-byte : tie.Need-shared-slice-read-carry-byte Inv-loop μ-loop
-shared-slice-read-carry-byte c = c .before .before .before .loop-test .taken
+shared-slice-read-b : tie.Need-shared-slice-read-b Inv-loop μ-loop
+shared-slice-read-b c =
+    c .before .loop-test .taken
 
-carry-byte-requires : tie.Need-carry-byte-requires Inv-loop μ-loop
-carry-byte-requires c κs = let at = c .before .before .before .before in (at .loop .inv .0 .valid, at .loop .inv .2, at .loop .inv .0 .long)
+prints-requires : tie.Need-prints-requires Inv-loop μ-loop
+prints-requires c κs = search needs
+
+print-codes-requires : tie.Need-print-codes-requires Inv-loop μ-loop
+print-codes-requires c κs =
+    let at = c .before .before .before .before .before .before .loop in
+    let b = getD (c .before .before .before .before .before .before .before .before .before .before .before .before .args .bytes .now) (at .i) 0 in
+    let printed = is-printed (at .active .waiting) b _ (c .before .before .before .prints .ensures) (c .before .before .if1 .taken) in
+    (placed-view (withActive (at .port) (at .active)) (at .inv .0 .valid), at .inv .1, c .before .before .before .before .before .loop-test .taken, printed .1, at .inv .0 .long)
+
+with-view-requires : tie.Need-with-view-requires Inv-loop μ-loop
+with-view-requires c κs = search needs
+
+add-i : tie.Need-add-i Inv-loop μ-loop
+add-i c =
+    let inside = c .before .before .before .before .print-codes .ensures .1 in
+    let fits = c .before .before .before .before .before .before .before .before .before .before .before .before .before .before .before .before .before .good .1 .1 in
+    omega arith
+
+loop-less : tie.Need-loop-less Inv-loop μ-loop
+loop-less c =
+    let some = c .before .before .before .before .print-codes .ensures .0 in
+    let inside = c .before .before .before .before .print-codes .ensures .1 in
+    omega arith
+
+loop-again : tie.Need-loop-again Inv-loop μ-loop
+loop-again c =
+    let at = c .before .before .before .before .before .before .before .before .before .before .before .loop in
+    let b = getD (c .before .before .before .before .before .before .before .before .before .before .before .before .before .before .before .before .before .args .bytes .now) (at .i) 0 in
+    let done = c .before .before .before .before .print-codes .ensures in
+    let printed = is-printed (at .active .waiting) b _ (c .before .before .before .before .before .before .before .before .prints .ensures) (c .before .before .before .before .before .before .before .if1 .taken) in
+    (after-printing (at .port) (at .active) (at .inv .0) _ _ _ (done .2) (done .1) (printed .0) (c .before .with-view .ensures), at .inv .1, at .inv .2)
+
+saves-requires : tie.Need-saves-requires Inv-loop μ-loop
+saves-requires c κs = search needs
+
+with-active-requires : tie.Need-with-active-requires Inv-loop μ-loop
+with-active-requires c κs = search needs
+
+obey-saving-requires : tie.Need-obey-saving-requires Inv-loop μ-loop
+obey-saving-requires c κs =
+    let at = c .before .before .before .before .before .before .before .loop in
+    let b = getD (c .before .before .before .before .before .before .before .before .before .before .before .before .before .args .bytes .now) (at .i) 0 in
+    is-saved (at .active .waiting) b _ (c .before .before .saves .ensures) (c .before .if2 .taken) .1
+
+active-of-requires-2 : tie.Need-active-of-requires-2 Inv-loop μ-loop
+active-of-requires-2 c κs = search needs
+
+add-i-2 : tie.Need-add-i-2 Inv-loop μ-loop
+add-i-2 c =
+    let more = c .before .before .before .before .before .before .before .before .loop-test .taken in
+    let fits = c .before .before .before .before .before .before .before .before .before .before .before .before .before .before .before .good .1 .1 in
+    omega arith
+
+loop-less-2 : tie.Need-loop-less-2 Inv-loop μ-loop
+loop-less-2 c =
+    let more = c .before .before .before .before .before .before .before .before .loop-test .taken in
+    omega arith
+
+loop-again-2 : tie.Need-loop-again-2 Inv-loop μ-loop
+loop-again-2 c =
+    let at = c .before .before .before .before .before .before .before .before .before .loop in
+    let b = getD (c .before .before .before .before .before .before .before .before .before .before .before .before .before .before .before .args .bytes .now) (at .i) 0 in
+    let saved = is-saved (at .active .waiting) b _ (c .before .before .before .before .saves .ensures) (c .before .before .before .if2 .taken) in
+    let joined = c .before .before .with-active .ensures in
+    let obeyed = c .before .obey-saving .ensures in
+    (after-saving (at .port) (at .active) (at .inv .0) _ joined obeyed (c .active-of2 .ensures) (c .before .before .before .before .before .before .before .before .loop-test .taken) (saved .0) (saved .1), at .inv .1, saving-keeps-home _ _ b obeyed (saved .1) ∙ ap (λ (x : Port). x .home) joined ∙ at .inv .2)
+
+bells-of-requires : tie.Need-bells-of-requires Inv-loop μ-loop
+bells-of-requires c κs = search needs
 
 add-bells : tie.Need-add-bells Inv-loop μ-loop
 add-bells c =
-    let at = c .before .before .before .before .before .before .before .before .before in
-    let few = at .loop .inv .0 .few in
-    let more = c .before .before .before .before .before .before .before .before .loop-test .taken in
-    let rung = c .before .before .before .before .carry-byte .ensures .bells-are in
-    let one = one-bell (at .loop .port) (getD (c .before .before .before .before .before .before .before .before .before .before .before .before .before .args .bytes .now) (at .loop .i) 0) in
+    let at = c .before .before .before .before .before .before .before .loop in
+    let few = at .inv .0 .few in
+    let more = c .before .before .before .before .before .before .loop-test .taken in
+    let one = at-most-one (at .active .waiting) (getD (c .before .before .before .before .before .before .before .before .before .before .before .before .before .args .bytes .now) (at .i) 0) (c .bells-of .ensures) in
     let fits = c .before .before .before .before .before .before .before .before .before .before .before .before .before .good .1 .1 in
     omega arith
 
-add-i : tie.Need-add-i Inv-loop μ-loop
-add-i c = let more = c .before .before .before .before .before .before .before .before .loop-test .taken in let fits = c .before .before .before .before .before .before .before .before .before .before .before .before .before .good .1 .1 in omega arith
+obey-byte-requires : tie.Need-obey-byte-requires Inv-loop μ-loop
+obey-byte-requires c κs =
+    let at = c .before .before .before .before .before .before .before .before .before .loop in
+    let b = getD (c .before .before .before .before .before .before .before .before .before .before .before .before .before .before .before .args .bytes .now) (at .i) 0 in
+    let port = withActive (at .port) (at .active) in
+    (placed-view port (at .inv .0 .valid), few-gathered port (at .inv .0 .valid), at .inv .1, at .inv .0 .long, is-controlled (at .active .waiting) b _ _ (c .before .before .before .before .before .before .prints .ensures) (c .before .before .before .before .before .if1 .left) (c .before .before .before .before .saves .ensures) (c .before .before .before .if2 .left), some-wanted port (at .inv .0 .valid))
 
-loop-less : tie.Need-loop-less Inv-loop μ-loop
-loop-less c = let more = c .before .before .before .before .before .before .before .before .loop-test .taken in omega arith
+add-i-3 : tie.Need-add-i-3 Inv-loop μ-loop
+add-i-3 c =
+    let more = c .before .before .before .before .before .before .before .before .before .before .before .loop-test .taken in
+    let fits = c .before .before .before .before .before .before .before .before .before .before .before .before .before .before .before .before .before .before .good .1 .1 in
+    omega arith
 
-loop-again : tie.Need-loop-again Inv-loop μ-loop
-loop-again c = search streaming-again
+loop-less-3 : tie.Need-loop-less-3 Inv-loop μ-loop
+loop-less-3 c =
+    let more = c .before .before .before .before .before .before .before .before .before .before .before .loop-test .taken in
+    omega arith
 
-returns : tie.Need-returns Inv-loop μ-loop
-returns c = streaming-ends (c .before .loop .inv .0) (c .loop-test .left)
+loop-again-3 : tie.Need-loop-again-3 Inv-loop μ-loop
+loop-again-3 c =
+    let at = c .before .before .before .before .before .before .before .before .before .before .before .before .loop in
+    (after-control (at .port) (at .active) (at .inv .0) _ _ (c .before .before .obey-byte .ensures (at .port) (at .inv .2)) (c .before .before .before .before .before .bells-of .ensures) (c .before .before .before .before .before .before .before .before .before .before .before .loop-test .taken), at .inv .1, at .inv .2)
+
+with-active-requires-2 : tie.Need-with-active-requires-2 Inv-loop μ-loop
+with-active-requires-2 c κs = search needs
 
 same-length : tie.Need-same-length Inv-loop μ-loop
-same-length c = search (same-size, needs)
+same-length c =
+    search (same-size, needs)
+
+returns : tie.Need-returns Inv-loop μ-loop
+returns c =
+    joined-again (streaming-ends (c .before .before .loop .inv .0) (c .before .loop-test .left)) (c .with-active2 .ensures)
 
 pub carry-stream-spec : {M : Type 1} → statement M
 carry-stream-spec =
@@ -60,12 +152,28 @@ carry-stream-spec =
     Inv-loop
     μ-loop
     table-copy-requires
+    active-of-requires
     loop-holds
-    shared-slice-read-carry-byte
-    carry-byte-requires
-    add-bells
+    shared-slice-read-b
+    prints-requires
+    print-codes-requires
+    with-view-requires
     add-i
     loop-less
     loop-again
+    saves-requires
+    with-active-requires
+    obey-saving-requires
+    active-of-requires-2
+    add-i-2
+    loop-less-2
+    loop-again-2
+    bells-of-requires
+    add-bells
+    obey-byte-requires
+    add-i-3
+    loop-less-3
+    loop-again-3
+    with-active-requires-2
     same-length
     returns)

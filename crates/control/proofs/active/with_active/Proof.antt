@@ -1,0 +1,16 @@
+use borrow.Author.Needs.{needs}
+use Rattle.control.proofs.Arms.{put-back}
+use Rattle.control.proofs.active.with_active.Statement.{statement}
+use Rattle.control.proofs.active.with_active.Tie as tie
+
+with-view-requires : tie.Need-with-view-requires
+with-view-requires c κs = search needs
+
+with-wait-requires : tie.Need-with-wait-requires
+with-wait-requires c κs = search needs
+
+returns : tie.Need-returns
+returns c = search put-back
+
+pub with-active-spec : {M : Type 1} → statement M
+with-active-spec = tie.close (tie.spec with-view-requires with-wait-requires returns)

@@ -1,2 +1,0 @@
--- What it is to carry a plan or a stream out on a screen.
-pub mod Carry

@@ -1,2 +1,0 @@
--- `Carried`: what carrying out each kind of plan comes to.
-pub mod Carried

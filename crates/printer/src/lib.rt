@@ -1,0 +1,96 @@
+// Printing: a byte, the spaces of $10, and runs of printing codes.
+pub mod draw;
+
+use charset::stored_byte;
+use draw::draw_moved;
+use port::View;
+use port::state::cursor_at;
+use screen::store_cell;
+use screen::store_run;
+use view::cursor::advance;
+use view::mode_of;
+ghost use mathlib.Core.Path.{_≡_};
+ghost use Prim.Native.Nat.{_+_, _≤_, _<_};
+ghost use lib.ListN.{length, getD, take, drop};
+ghost use Rattle.charset.specs.Stored.{Agrees, storedByte};
+ghost use Rattle.port.specs.State.{cursorAt};
+ghost use Rattle.port.specs.Codes.{modeOf, printByte, spaces};
+ghost use Rattle.printer.specs.Carry.{AllOnScreen, Drew};
+ghost use Rattle.printer.specs.Print.{Placed, Printed};
+
+// Prints a byte: it is stored at the cursor, and the cursor advances.
+pub fn print_byte(screen: &mut [u8], v: View, byte: u8) -> View
+    requires { ⌜ AllOnScreen (printByte v byte .edits) × (length (now screen) ≡ 1920) ⌝ }
+    ensures { λ r. ⌜ Drew (printByte v byte) r (now (screen .entry)) (now (screen .exit)) ⌝ }
+{
+    store_cell(screen, v.column, v.line, byte);
+    draw_moved(screen, advance(v))
+}
+
+// Prints spaces, each stored as byte.
+pub fn print_spaces(screen: &mut [u8], v: View, byte: u8, count: u8) -> View
+    requires { ⌜ AllOnScreen (spaces count v .edits) × (byte ≡ storedByte (modeOf v) 0x20) × (length (now screen) ≡ 1920) ⌝ }
+    ensures { λ r. ⌜ Drew (spaces count v) r (now (screen .entry)) (now (screen .exit)) ⌝ }
+{
+    let mut at = v;
+    let mut left = count;
+    while 0 < left {
+        at = print_byte(screen, at, byte);
+        left -= 1;
+    }
+    at
+}
+
+// Printing codes of bytes, from place from on, that stay left of the right edge: they are stored in one go, and the cursor is theirs to move. How many; none where the cursor does not advance.
+fn print_run(screen: &mut [u8], table: &[u8; 768], v: View, bytes: &[u8], from: usize) -> usize
+    requires { ⌜ Placed v × Agrees (now table) × (from ≤ length (now bytes)) × (length (now screen) ≡ 1920) ⌝ }
+    ensures { λ n. ⌜ (v .column + n ≤ v .viewport .right) × (from + n ≤ length (now (bytes .entry))) × Printed v (take n (drop from (now (bytes .entry)))) (cursorAt v (v .column + n) (v .line)) (now (screen .entry)) (now (screen .exit)) ⌝ }
+{
+    let port = v.viewport;
+    let flags = v.flags;
+    if flags.advance {
+        let mode = mode_of(v);
+        return store_run(
+            screen,
+            v.column as usize,
+            v.line as usize,
+            (port.right - v.column) as usize,
+            table,
+            mode,
+            bytes,
+            from,
+        );
+    }
+    0
+}
+
+// The view that printing leaves, and how many codes were printed.
+pub struct PrintedCodes {
+    pub view: View,
+    pub count: usize,
+}
+
+// Prints codes of bytes, from place from on, where a printing code stands: a run, or that one code where there is none.
+pub fn print_codes(
+    screen: &mut [u8],
+    table: &[u8; 768],
+    v: View,
+    bytes: &[u8],
+    from: usize,
+) -> PrintedCodes
+    requires { ⌜ Placed v × Agrees (now table) × (from < length (now bytes)) × (32 ≤ getD (now bytes) from 0) × (length (now screen) ≡ 1920) ⌝ }
+    ensures { λ r. ⌜ (0 < r .count) × (from + r .count ≤ length (now (bytes .entry))) × Printed v (take (r .count) (drop from (now (bytes .entry)))) (r .view) (now (screen .entry)) (now (screen .exit)) ⌝ }
+{
+    let run = print_run(screen, table, v, bytes, from);
+    if 0 < run {
+        return PrintedCodes {
+            view: cursor_at(v, v.column + run as u8, v.line),
+            count: run,
+        };
+    }
+    let byte = stored_byte(table, mode_of(v), bytes[from]);
+    PrintedCodes {
+        view: print_byte(screen, v, byte),
+        count: 1,
+    }
+}

@@ -1,0 +1,71 @@
+-- The laws of `RunStored`: how a run of codes starts, and grows by one at its end. Assumes nothing.
+use Prim.Native.Nat.{ℕ, _+_, _*_, _≤_, _<_}
+use mathlib.Core.Path.{_≡_, refl, sym, ap, _∙_}
+use mathlib.Core.List.{List, [], _∷_, _++_}
+use native.Mathlib.Nat.{add-zero}
+use native.Mathlib.Numerals.{add-one}
+use native.Mathlib.Omega.{arith}
+use lib.ListN.{length, getD, take, drop, set, length-drop}
+use lib.Seq.{length-take-le, take-suc, getD-drop}
+use Rattle.rectangle.specs.declared.Motion.the-variants.{Clear}
+use Rattle.rectangle.specs.Rectangles.{cellAt}
+use Rattle.rectangle.specs.Edit.{edited}
+use Rattle.charset.specs.declared.Mode.{Mode}
+use Rattle.charset.specs.Stored.{storedByte}
+use Rattle.screen.specs.Run.{AllPrinting, storedRun, RunStored}
+use Rattle.screen.proofs.Stores.{stores-cell}
+
+-- one code more of the bytes, at the end
+one-taken : (bytes : List ℕ) (from n : ℕ) → from + n < length bytes
+    → take (n + 1) (drop from bytes) ≡ take n (drop from bytes) ++ (getD bytes (from + n) 0 ∷ [])
+one-taken bytes from n h =
+    let inside : n < length (drop from bytes) = simp length-drop (omega arith) in rw (add-one, take-suc (drop from bytes) n 0, getD-drop)
+
+pub alone-taken : (bytes : List ℕ) (from : ℕ) → from < length bytes → take 1 (drop from bytes) ≡ getD bytes from 0 ∷ []
+alone-taken bytes from h = one-taken bytes from 0 (omega arith) ∙ ap (λ (n : ℕ). getD bytes n 0 ∷ []) (add-zero from)
+
+pub taken-length : (bytes : List ℕ) (from n : ℕ) → from + n ≤ length bytes → length (take n (drop from bytes)) ≡ n
+taken-length bytes from n h = length-take-le n (drop from bytes) (simp length-drop (omega arith))
+
+printing-append : (cs : List ℕ) (c : ℕ) → AllPrinting cs → 32 ≤ c → AllPrinting (cs ++ (c ∷ []))
+printing-append [] c all h = (h, tt)
+printing-append (d ∷ cs) c all h = (all .0, printing-append cs c (all .1) h)
+
+-- the code at the end goes to the cell after the others
+stored-append : (mode : Mode) (column line : ℕ) (cs : List ℕ) (c : ℕ) (s : List ℕ)
+    → storedRun mode column line (cs ++ (c ∷ [])) s ≡ edited (cellAt (column + length cs) line) Clear (storedByte mode c) (storedRun mode column line cs s)
+unfolding storedRun
+stored-append mode column line [] c s = rw add-zero
+stored-append mode column line (d ∷ cs) c s =
+    let place : column + 1 + length cs ≡ column + length (d ∷ cs) = omega arith in
+    rw (← place) (stored-append mode (column + 1) line cs c _)
+
+-- no code yet
+pub none-stored : (mode : Mode) (column line room : ℕ) (bytes : List ℕ) (from : ℕ) (s : List ℕ) → from ≤ length bytes
+    → RunStored mode column line room bytes from 0 s s
+unfolding storedRun
+none-stored mode column line room bytes from s h = record { fits = omega arith; within = omega arith; printing = tt; cells = refl }
+
+-- one code more, which is stored as byte in the cell at index
+pub one-stored : {mode : Mode} {column line room : ℕ} {bytes : List ℕ} {from n : ℕ} {s t : List ℕ} {index byte : ℕ}
+    → RunStored mode column line room bytes from n s t
+    → column + room ≤ 80
+    → line ≤ 23
+    → length t ≡ 1920
+    → n < room
+    → from + n < length bytes
+    → 32 ≤ getD bytes (from + n) 0
+    → index ≡ 80 * line + (column + n)
+    → byte ≡ storedByte mode (getD bytes (from + n) 0)
+    → RunStored mode column line room bytes from (n + 1) s (set t index byte)
+one-stored {mode} {column} {line} {room} {bytes} {from} {n} {s} {t} {index} {byte} run across down len less inside prints at is-byte =
+    let cs : List ℕ = take n (drop from bytes) in
+    let code : ℕ = getD bytes (from + n) 0 in
+    let more = one-taken bytes from n inside in
+    let place : n ≡ length cs = sym (taken-length bytes from n (run .within)) in
+    record {
+      fits = omega arith;
+      within = omega arith;
+      printing = rw more (printing-append cs code (run .printing) prints);
+      cells = rw (more, stored-append) (stores-cell (column + n) line byte t (omega arith) down len at ∙ (λ i. edited (cellAt (column + place i) line) Clear (is-byte i) (run .cells i)));
+    }

@@ -29,7 +29,8 @@ loop-holds c =
 
 shared-slice-read-b : tie.Need-shared-slice-read-b Inv-loop μ-loop
 shared-slice-read-b c =
-    c .before .loop-test .taken
+    let more = c .before .loop-test .taken in
+    omega arith
 
 prints-requires : tie.Need-prints-requires Inv-loop μ-loop
 prints-requires c κs = search needs

@@ -1,7 +1,6 @@
-# Shared by the scripts beside it, which run it from the top of the repository. It builds the benchmark for release, linked with the libraries.
+# Shared by the scripts beside it, which run it from the top of the repository. It builds the benchmark for release, linked with the library.
 folder=target/staticlib
 library=$folder/libboundary.a
-bytewise=$folder/libbytewise.a
 out=target/bench
 
 fail() {
@@ -15,13 +14,12 @@ need() { # TOOL
 
 compile() { # PROGRAM SOURCE
     rustc --edition 2021 -D warnings -C opt-level=3 -L "native=$folder" -l static=boundary \
-        -l static=bytewise -o "$out/$1" "bench/src/$2" || fail "$2 does not compile"
+        -o "$out/$1" "bench/src/$2" || fail "$2 does not compile"
 }
 
-# Always anew, as a library may have changed: it takes some seconds.
+# Always anew, as the library may have changed: it takes some seconds.
 build() {
     [ -f "$library" ] || fail "$library is missing; 'rt staticlib boundary' builds it"
-    [ -f "$bytewise" ] || fail "$bytewise is missing; 'rt staticlib bytewise' builds it"
     need rustc
     mkdir -p "$out"
     compile bench main.rs

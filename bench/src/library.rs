@@ -1,8 +1,7 @@
-//! The libraries `boundary` and `bytewise`, linked in. Their functions are
-//! proved, but what they assume of a caller lies outside any proof: each
-//! pointer is valid for the length beside it, and no slice that may be
-//! written overlaps another one. Rust's borrow rules give both to the
-//! functions here.
+//! The library `boundary`, linked in. Its functions are proved, but what
+//! they assume of a caller lies outside any proof: each pointer is valid
+//! for the length beside it, and no slice that may be written overlaps
+//! another one. Rust's borrow rules give both to the functions here.
 
 use crate::feed::{Answer, Feed};
 

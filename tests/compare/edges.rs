@@ -1,4 +1,4 @@
-//! The libraries' stream calls at their edges: an answer lent too short or
+//! The library's stream calls at their edges: an answer lent too short or
 //! longer than needed, writes of no size, and screens of another length.
 
 use crate::console::write;

@@ -1,9 +1,9 @@
-//! Compares the console program and the libraries `boundary` and
-//! `bytewise` with the reference program, on stored streams, on random
-//! ones, and on random scripts of wall calls.
+//! Compares the console program and the library `boundary` with the
+//! reference program, on stored streams, on random ones, and on random
+//! scripts of wall calls.
 //!
 //! Build: rustc --edition 2021 -O -L native=target/staticlib
-//!        -l static=boundary -l static=bytewise -o OUT tests/compare/main.rs
+//!        -l static=boundary -o OUT tests/compare/main.rs
 //! Run:   OUT streams DIR CONSOLE
 //!        OUT random SEED COUNT CONSOLE
 //!        OUT scripts SEED COUNT

@@ -1,4 +1,4 @@
-//! The random comparison of the program and the libraries with the
+//! The random comparison of the program and the library with the
 //! reference.
 
 use crate::difference::{first_difference, hex};

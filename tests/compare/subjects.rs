@@ -1,5 +1,5 @@
 //! What is compared with the reference on streams: the console program,
-//! and the libraries: writes of several sizes, and the one-byte call.
+//! and the library: writes of several sizes, and the one-byte call.
 
 use crate::expected::{print, read};
 use crate::library::{run_stream, Feed};
@@ -13,7 +13,7 @@ pub enum Subject<'a> {
     Library(Feed),
 }
 
-/// How the libraries are fed. The largest write cuts no stream.
+/// How the library is fed. The largest write cuts no stream.
 pub const FEEDS: [Feed; 5] = [
     Feed::Writes(1),
     Feed::Writes(2),
@@ -22,7 +22,7 @@ pub const FEEDS: [Feed; 5] = [
     Feed::Bytes,
 ];
 
-/// The program, and the libraries fed in each way.
+/// The program, and the library fed in each way.
 pub fn subjects(console: &OsStr) -> Vec<Subject<'_>> {
     let mut subjects = vec![Subject::Program(console)];
     subjects.extend(FEEDS.map(Subject::Library));

@@ -1,4 +1,4 @@
-// Runs from Rust, for tests and benchmarks: a script of calls by client, or a plain stream in pieces. Scripts, streams and answers are bytes.
+// Runs from Rust, for tests and benchmarks: a script of calls by client, or a plain stream in pieces or byte after byte. Scripts, streams and answers are bytes.
 // No state crosses this boundary. What it assumes of its caller is outside the proofs: each pointer is good for its length, and lent slices do not overlap.
 mod room;
 mod script;
@@ -20,6 +20,7 @@ use session::answer::put_end;
 use session::answer::put_head;
 use session::fresh_session;
 use session::hand_over_all;
+use session::hand_over_bytes;
 use slots::Multiplexer;
 ghost use Prim.Native.Nat.{_+_, _≤_, _<_, min};
 ghost use mathlib.Core.Path.{_≡_};
@@ -152,5 +153,20 @@ pub extern "C" fn combthrift_run_stream(
         return 0;
     }
     put_end(answer, hand_over_all(screen, fresh_session(), bytes, size));
+    7
+}
+
+// Hands a stream to a fresh plain console, byte after byte by the one-byte call.
+// The result is the length of the answer (`put_end`), or 0, with nothing done, where there is no room for it.
+#[no_mangle]
+pub extern "C" fn combthrift_put_bytes(
+    bytes: &[u8],
+    screen: &mut [u8],
+    answer: &mut [u8],
+) -> usize {
+    if answer.len() < 7 {
+        return 0;
+    }
+    put_end(answer, hand_over_bytes(screen, fresh_session(), bytes));
     7
 }

@@ -3,7 +3,7 @@
 use crate::check::agree;
 use crate::drivers::{printed, Peer, Task};
 use crate::expected;
-use crate::harness::{Harness, Length};
+use crate::harness::{Harness, Length, LINES, SMALL_PIECES};
 use crate::workloads::PAGE_SIZE;
 use std::fs::{read, File};
 use std::process::Command;
@@ -27,7 +27,8 @@ pub fn compare(harness: &Harness, peers: &[Peer]) -> Result<(), String> {
     agree(found)?;
     println!(
         "All consoles below show the same 24 lines after every workload, and in pieces of \
-         7 bytes; the plain C console has the reference program's cells, cursor and bells."
+         7 bytes, the lines also of 1 and of 16; the plain C console has the reference \
+         program's cells, cursor and bells."
     );
     Ok(())
 }
@@ -51,14 +52,28 @@ fn shows_the_same(
     name: &str,
 ) -> Result<bool, String> {
     let whole = |length| Task { length, name, chunk: PAGE_SIZE };
-    let cut =
-        Task { length: Length::Short, name, chunk: if peer.one_byte_call { 0 } else { PIECE } };
-    if peer.dump(harness, cut)? != plain_c.dump(harness, whole(Length::Short))? {
-        return Ok(false);
+    let shown = plain_c.dump(harness, whole(Length::Short))?;
+    for chunk in pieces(peer, name) {
+        if peer.dump(harness, Task { length: Length::Short, name, chunk })? != shown {
+            return Ok(false);
+        }
     }
     if peer.one_byte_call {
         return Ok(true);
     }
     let whole = whole(peer.length());
     Ok(peer.dump(harness, whole)? == plain_c.dump(harness, whole)?)
+}
+
+/// The lengths of the pieces that a stream is cut into; 0 stands for the
+/// one-byte call.
+fn pieces(peer: &Peer, name: &str) -> Vec<usize> {
+    if peer.one_byte_call {
+        return vec![0];
+    }
+    let mut pieces = vec![PIECE];
+    if name == LINES {
+        pieces.extend(SMALL_PIECES);
+    }
+    pieces
 }

@@ -9,8 +9,14 @@ use crate::table::with_commas;
 use crate::workloads::{Workload, PAGE};
 
 /// Whole, cut into pieces, and byte by byte in two ways.
-const FEEDS: [Feed; 5] =
-    [Feed::Writes(usize::MAX), PAGE, Feed::Writes(7), Feed::Writes(1), Feed::Bytes];
+const FEEDS: [Feed; 6] = [
+    Feed::Writes(usize::MAX),
+    PAGE,
+    Feed::Writes(16),
+    Feed::Writes(7),
+    Feed::Writes(1),
+    Feed::Bytes,
+];
 
 /// Line feeds in the end leave nothing to see; after so many bytes the
 /// lines of text have moved, and some are left.
@@ -31,7 +37,7 @@ pub fn compare(workloads: &[Workload]) -> Result<(), String> {
     agree(found)?;
     println!(
         "Library and reference program leave the same screen, cursor and bells after every \
-         workload and after its first {} bytes: whole, in pieces of 65,536 and of 7 bytes, \
+         workload and after its first {} bytes: whole, in pieces of 65,536, 16 and 7 bytes, \
          and one byte a call, by value and by the one-byte call.",
         with_commas(PART as u64)
     );

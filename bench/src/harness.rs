@@ -10,6 +10,10 @@ pub enum Length {
     Short,
 }
 
+/// The stream that is handed over in small pieces too, and their lengths.
+pub const LINES: &str = "a_lines";
+pub const SMALL_PIECES: [usize; 2] = [1, 16];
+
 /// What a line of `units` tells of a stream.
 pub struct Units {
     pub name: String,

@@ -4,7 +4,7 @@
 use crate::agreement;
 use crate::check;
 use crate::drivers::{peers, Peer, Task};
-use crate::harness::{Harness, Length};
+use crate::harness::{Harness, Length, LINES, SMALL_PIECES};
 use crate::machine;
 use crate::measure::{largest_spread, take_turns, Comparison, Side, Times};
 use crate::table::{number, Table};
@@ -13,11 +13,11 @@ use crate::workloads::PAGE_SIZE;
 /// Rounds of a slow console, and repeats of a short workload.
 const FEW: usize = 3;
 
-/// A workload, in large pieces or one byte a call.
+/// A workload, and the length of the pieces that it is handed over in.
 struct Column {
     name: String,
     unit: String,
-    one_byte: bool,
+    chunk: usize,
     repeats: usize,
 }
 
@@ -49,10 +49,12 @@ fn columns(harness: &Harness) -> Result<Vec<Column>, String> {
     for units in harness.units(Length::Long)? {
         let repeats = if units.count <= 10_000 { FEW } else { 1 };
         let (name, unit) = (units.name, units.unit);
-        columns.push(Column { name, unit, one_byte: false, repeats });
+        columns.push(Column { name, unit, chunk: PAGE_SIZE, repeats });
     }
-    let (name, unit) = ("a_lines".to_string(), "byte".to_string());
-    columns.push(Column { name, unit, one_byte: true, repeats: 1 });
+    for chunk in SMALL_PIECES {
+        let (name, unit) = (LINES.to_string(), "byte".to_string());
+        columns.push(Column { name, unit, chunk, repeats: 1 });
+    }
     Ok(columns)
 }
 
@@ -70,18 +72,22 @@ fn measure(
 
 impl Column {
     fn title(&self) -> String {
-        let calls = if self.one_byte { ", one byte a call" } else { "" };
+        let calls = match self.chunk {
+            PAGE_SIZE => String::new(),
+            1 => ", one byte a call".to_string(),
+            size => format!(", {} bytes a call", size),
+        };
         format!("{}{}, {}", self.name, calls, self.unit)
     }
 
     /// What a console is given in this column; none if it has no part.
     fn task(&self, peer: &Peer) -> Option<Task<'_>> {
-        let (length, chunk) = match (self.one_byte, peer.one_byte_call) {
-            (false, true) => return None,
-            (false, false) => (peer.length(), PAGE_SIZE),
-            (true, true) => (Length::Short, 0),
-            (true, false) => (Length::Short, 1),
+        let chunk = match (self.chunk, peer.one_byte_call) {
+            (1, true) => 0,
+            (_, true) => return None,
+            (chunk, false) => chunk,
         };
+        let length = if self.chunk == PAGE_SIZE { peer.length() } else { Length::Short };
         Some(Task { length, name: &self.name, chunk })
     }
 

@@ -42,6 +42,7 @@ pub fn all(bytes: usize, line_feeds: usize) -> Vec<Workload> {
         addressed(bytes),
         erases(bytes),
         text("one byte a call, by value", lines(bytes / 4), Feed::Writes(1)),
+        text("16 bytes a call, by value", lines(bytes / 4), Feed::Writes(16)),
         text("one byte a call, one-byte call", lines(bytes / 4), Feed::Bytes),
     ]
 }

@@ -12,9 +12,10 @@ need() { # TOOL
     command -v "$1" >/dev/null 2>&1 || fail "the command '$1' is missing"
 }
 
+# The program, and in a file beside it the names of its sources.
 compile() { # PROGRAM SOURCE
     rustc --edition 2021 -D warnings -C opt-level=3 -L "native=$folder" -l static=boundary \
-        -o "$out/$1" "bench/src/$2" || fail "$2 does not compile"
+        --emit "link=$out/$1,dep-info=$out/$1.d" "bench/src/$2" || fail "$2 does not compile"
 }
 
 # Always anew, as the library may have changed: it takes some seconds.

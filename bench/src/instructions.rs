@@ -2,7 +2,7 @@
 
 use crate::drivers::printed;
 use crate::feed::Feed;
-use crate::script::{check, one_byte_writes, room};
+use crate::script::{self, one_byte_writes, room};
 use crate::table::{number, Table};
 use crate::workloads::{all, by_client, Workload};
 use std::fs::{create_dir_all, write};
@@ -19,6 +19,11 @@ struct Side<'a> {
     title: &'a str,
     driver: &'a str,
     one_byte_call: usize,
+}
+
+/// The calls by client alone, with nothing counted.
+pub fn check() -> Result<(), String> {
+    script::check(&by_client(BYTES).stream)
 }
 
 pub fn run(folder: &str, ours: &str, plain_c: Option<&str>) -> Result<(), String> {
@@ -86,7 +91,7 @@ impl Side<'_> {
 
     /// Less the opening alone, with the same room for answers.
     fn count_by_client(&self, folder: &Path, stream: &[u8]) -> Result<f64, String> {
-        check(stream)?;
+        script::check(stream)?;
         let arguments = [&room(stream).to_string()[..]];
         let calls = self.instructions(folder, &one_byte_writes(stream), &arguments)?;
         let start = self.instructions(folder, &one_byte_writes(&[]), &arguments)?;

@@ -1,11 +1,13 @@
 //! The benchmark. It is built and started by the scripts beside it.
 //!
-//! Usage: bench own ROUNDS
+//! Usage: bench check
+//!        bench own ROUNDS
 //!        bench peers FOLDER ROUNDS
 //!        bench instructions FOLDER DRIVER [C_DRIVER]
 //!        bench sizes NOTES DISASSEMBLY
 //!
-//! The exit status is 0 if the tables were printed, 1 if something
+//! `check` compares the results on the benchmark's own workloads, and
+//! does no more. The exit status is 0 if all is well, 1 if something
 //! failed or results differ, 2 if the arguments are wrong.
 
 #[path = "../../reference/src/cells.rs"]
@@ -51,7 +53,8 @@ mod workloads;
 
 use std::process::exit;
 
-const USAGE: &str = "usage: bench own ROUNDS
+const USAGE: &str = "usage: bench check
+       bench own ROUNDS
        bench peers FOLDER ROUNDS
        bench instructions FOLDER DRIVER [C_DRIVER]
        bench sizes NOTES DISASSEMBLY";
@@ -75,6 +78,7 @@ fn main() {
 fn asked(arguments: &[String]) -> Option<Result<(), String>> {
     let (part, arguments) = arguments.split_first()?;
     match (part.as_str(), arguments) {
+        ("check", []) => Some(own::check().and_then(|()| instructions::check())),
         ("own", [rounds]) => Some(own::run(at_least_one(rounds)?)),
         ("peers", [folder, rounds]) => Some(peers::run(folder, at_least_one(rounds)?)),
         ("instructions", [folder, ours]) => Some(instructions::run(folder, ours, None)),

@@ -17,6 +17,11 @@ const LINE_FEEDS: usize = 50_000;
 
 const HEADS: [&str; 6] = ["", "unit", "Combthrift, ns", "reference program, ns", "ratio", "spread"];
 
+/// The results alone, with nothing timed.
+pub fn check() -> Result<(), String> {
+    check::compare(&all(BYTES, LINE_FEEDS))
+}
+
 pub fn run(rounds: usize) -> Result<(), String> {
     let workloads = all(BYTES, LINE_FEEDS);
     check::compare(&workloads)?;

@@ -30,22 +30,24 @@ fn read(path: &str) -> Result<String, String> {
 
 fn print_state(types: &Types, object: &Object) -> Result<(), String> {
     let mut table = Table::new(&texts(&["", "bytes"]));
-    let wall = types.size("slots::Multiplexer")?;
+    let multiplexer = types.size("slots::Multiplexer")?;
     let rows = [
         ("a port", types.size("port::Port")?),
         ("a slot: a client's number and its port", types.size("slots::Slot")?),
-        ("a wall: four slots", wall),
+        ("a multiplexer: four slots", multiplexer),
     ];
     for (name, size) in rows {
         table.add(&[name.to_string(), with_commas(size as u64)]);
     }
     table.print("State, by the fields that the compiler noted");
-    match object.copiers(wall)[..] {
-        [] => println!("\nNot confirmed: the object code copies no block of {} bytes.", wall),
+    match object.copiers(multiplexer)[..] {
+        [] => {
+            println!("\nNot confirmed: the object code copies no block of {} bytes.", multiplexer)
+        }
         ref names => println!(
-            "\nConfirmed: the object code copies blocks of {} bytes, a wall, in {}. With a gap \
-             anywhere in a port, a slot or a wall it would be more.",
-            wall,
+            "\nConfirmed: the object code copies blocks of {} bytes, a multiplexer, in {}. With a \
+             gap anywhere in a port, a slot or a multiplexer it would be more.",
+            multiplexer,
             names.join(", ")
         ),
     }

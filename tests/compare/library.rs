@@ -42,8 +42,8 @@ pub enum Feed {
     Bytes,
 }
 
-/// Runs a script on a fresh wall and the lent screen. The answers go to
-/// the front of `answers`, as many as fit. Gives their length.
+/// Runs a script on a fresh multiplexer and the lent screen. The answers
+/// go to the front of `answers`, as many as fit. Gives their length.
 pub fn run_script(script: &[u8], screen: &mut [u8], answers: &mut [u8]) -> usize {
     unsafe {
         combthrift_run_script(

@@ -1,6 +1,6 @@
 //! Compares the console program and the library `boundary` with the
 //! reference program, on stored streams, on random ones, and on random
-//! scripts of wall calls.
+//! scripts of calls by client.
 //!
 //! Build: rustc --edition 2021 -O -L native=target/staticlib
 //!        -l static=boundary -o OUT tests/compare/main.rs
@@ -26,6 +26,7 @@ mod port;
 mod script;
 #[path = "../../reference/src/stored.rs"]
 mod stored;
+// The multiplexer, by the papers' word for it.
 #[path = "../../reference/src/wall.rs"]
 mod wall;
 

@@ -1,5 +1,5 @@
 //! The comparison of the library with the reference on random scripts of
-//! wall calls, answer by answer.
+//! calls by client, answer by answer.
 
 mod author;
 mod blocks;

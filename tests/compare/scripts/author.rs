@@ -1,7 +1,7 @@
 //! Random runs, each from a seed and its number.
 //!
-//! Each call is made on the reference's wall as soon as it is written, so
-//! it is known what is open, and most calls mean something.
+//! Each call is made on the reference's multiplexer as soon as it is
+//! written, so it is known what is open, and most calls mean something.
 
 use super::blocks;
 use super::call::{Action, Call};
@@ -35,7 +35,7 @@ pub fn run(seed: u64, number: u64) -> Run {
     for _ in 0..author.maker.numbers.below(40) {
         author.any_call();
     }
-    for client in clients(&author.stage.wall) {
+    for client in clients(&author.stage.multiplexer) {
         author.show(client);
     }
     let (ending, spare) = ending(&mut author.maker.numbers, &author.calls);
@@ -58,7 +58,7 @@ impl Author {
 
     /// The fewer clients are open, the more openings.
     fn any_call(&mut self) {
-        let openings = match clients(&self.stage.wall).len() {
+        let openings = match clients(&self.stage.multiplexer).len() {
             0 => 16,
             1 => 8,
             2 => 6,
@@ -79,7 +79,7 @@ impl Author {
 
     /// Mostly an open one; number 0 and one that is not open now and then.
     fn any_client(&mut self) -> u8 {
-        let open = clients(&self.stage.wall);
+        let open = clients(&self.stage.multiplexer);
         match self.maker.numbers.below(14) {
             0 => 0,
             1 => self.maker.numbers.byte(),
@@ -90,7 +90,7 @@ impl Author {
 
     /// Mostly with a number that is not open.
     fn open(&mut self) {
-        let open = clients(&self.stage.wall);
+        let open = clients(&self.stage.multiplexer);
         let client = match self.maker.numbers.below(12) {
             0 => 0,
             1 => self.maker.numbers.byte(),
@@ -101,7 +101,7 @@ impl Author {
                 self.maker.numbers.pick(&free)
             }
         };
-        let pane = pane(&mut self.maker.numbers, &panes(&self.stage.wall));
+        let pane = pane(&mut self.maker.numbers, &panes(&self.stage.multiplexer));
         self.make(client, Action::Open(pane));
     }
 
@@ -129,7 +129,7 @@ impl Author {
 
     /// A client's port, or where it is not open one that stands in for it.
     fn port(&self, client: u8) -> Port {
-        match port(&self.stage.wall, client) {
+        match port(&self.stage.multiplexer, client) {
             Some(port) => *port,
             None => Port::fresh_in(Rectangle { left: 0, top: 0, right: 1, bottom: 1 }),
         }

@@ -1,4 +1,4 @@
-//! A call on a wall as a value, and its bytes in a script.
+//! A call by client as a value, and its bytes in a script.
 
 use crate::difference::brief_hex;
 use crate::port::Rectangle;

@@ -20,26 +20,28 @@ pub struct Reached {
 }
 
 impl Reached {
-    /// Makes a run's calls on the reference's wall and notes what they
-    /// reach. Tells in words where the reference does not give the
+    /// Makes a run's calls on the reference's multiplexer and notes what
+    /// they reach. Tells in words where the reference does not give the
     /// smallest refusal that applies.
     pub fn follow(&mut self, run: &Run) -> Result<(), String> {
         let mut stage = Stage::new(run.screen.clone());
         let mut before = None;
         let mut returned = None;
         for call in run.made() {
-            let wall = stage.wall;
-            let applying = refusals(call, &wall, run.screen.len());
+            let multiplexer = stage.multiplexer;
+            let applying = refusals(call, &multiplexer, run.screen.len());
             let (status, block) = stage.make(call);
             let smallest = applying.first().copied().unwrap_or(0);
             if status != smallest {
                 return Err(format!("status {} and not {} for {}", status, smallest, call));
             }
             self.note_statuses(call.kind(), status, &applying);
-            if let (Action::Write(bytes), Some(port)) = (&call.action, port(&wall, call.client)) {
+            let port = port(&multiplexer, call.client);
+            if let (Action::Write(bytes), Some(port)) = (&call.action, port) {
                 self.note_codes(port, bytes);
             }
-            self.situations.see(&Moment { call, status, wall, before, returned: &returned });
+            let moment = Moment { call, status, multiplexer, before, returned: &returned };
+            self.situations.see(&moment);
             before = Some((call, status));
             if let (Action::Return(_), 0) = (&call.action, status) {
                 returned = Some((call.client, block));

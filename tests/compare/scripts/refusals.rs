@@ -1,15 +1,14 @@
 //! Which refusals apply to a call, each judged by itself, and which a
 //! script can reach.
 //!
-//! 2 is not among them: a run starts with a fresh wall, and it is proved
-//! that every call leaves a sound wall sound.
+//! 2 is not among them: a run starts with a fresh multiplexer, and it is
+//! proved that every call leaves a valid one valid.
 
 use super::blocks::{length, measures};
 use super::call::{Action, Call};
 use super::panes::share_a_cell;
-use super::stage::{clients, panes, port};
+use super::stage::{clients, panes, port, Multiplexer};
 use crate::port::{Port, SCREEN_SIZE};
-use crate::wall::Wall;
 
 /// The statuses that a script can reach, by kind of call.
 pub const REACHABLE: [&[u8]; 5] =
@@ -26,8 +25,8 @@ pub const TOGETHER: [&[(u8, u8)]; 5] = [
 ];
 
 /// All that apply, the smallest first, which is the one to be given.
-pub fn refusals(call: &Call, wall: &Wall, screen_length: usize) -> Vec<u8> {
-    let port = port(wall, call.client);
+pub fn refusals(call: &Call, multiplexer: &Multiplexer, screen_length: usize) -> Vec<u8> {
+    let port = port(multiplexer, call.client);
     let screen = (1, screen_length != SCREEN_SIZE);
     let not_open = (8, port.is_none());
     let asked = match &call.action {
@@ -36,8 +35,8 @@ pub fn refusals(call: &Call, wall: &Wall, screen_length: usize) -> Vec<u8> {
             (3, call.client == 0),
             (4, !pane.legal()),
             (5, port.is_some()),
-            (6, panes(wall).iter().any(|&other| share_a_cell(*pane, other))),
-            (7, clients(wall).len() == 4),
+            (6, panes(multiplexer).iter().any(|&other| share_a_cell(*pane, other))),
+            (7, clients(multiplexer).len() == 4),
         ],
         Action::Close => vec![not_open],
         Action::Write(_) => vec![screen, not_open],

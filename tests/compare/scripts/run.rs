@@ -1,5 +1,5 @@
-//! A run of calls on a fresh wall: what is lent to it, and what the
-//! reference and the library make of it.
+//! A run of calls on a fresh multiplexer: what is lent to it, and what
+//! the reference and the library make of it.
 
 use super::call::Call;
 use crate::library;

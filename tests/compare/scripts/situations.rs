@@ -2,16 +2,15 @@
 
 use super::blocks::{length, measures};
 use super::call::{Action, Call};
-use super::stage::{panes, port};
+use super::stage::{panes, port, Multiplexer};
 use crate::port::{Port, Rectangle, WHOLE_SCREEN};
-use crate::wall::Wall;
 use std::collections::BTreeMap;
 
 /// A call, its status, and what was there before it.
 pub struct Moment<'a> {
     pub call: &'a Call,
     pub status: u8,
-    pub wall: Wall,
+    pub multiplexer: Multiplexer,
     /// The call before, and its status.
     pub before: Option<(&'a Call, u8)>,
     /// The last block that was returned, and to which client.
@@ -46,7 +45,7 @@ impl Situations {
 
     pub fn see(&mut self, now: &Moment) {
         let zero = now.call.client == 0;
-        let port = port(&now.wall, now.call.client);
+        let port = port(&now.multiplexer, now.call.client);
         match (&now.call.action, port) {
             (Action::Open(pane), _) => {
                 self.note("open: number 0", zero);
@@ -64,7 +63,7 @@ impl Situations {
     }
 
     fn see_open(&mut self, now: &Moment, pane: Rectangle) {
-        let open = panes(&now.wall);
+        let open = panes(&now.multiplexer);
         let near = |test: fn(Rectangle, Rectangle) -> bool| open.iter().any(|&at| test(pane, at));
         let opened = now.status == 0;
         let closed = matches!(now.before, Some((Call { action: Action::Close, .. }, 0)));

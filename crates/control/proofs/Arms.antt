@@ -5,12 +5,12 @@ use mathlib.Core.Bool.{cond}
 use mathlib.Core.List.{List, []}
 use lib.Dec.{ltb}
 use native.Mathlib.Omega.{arith}
-use borrow.Author.Tests.{lt-ltb, le-ltb, eq-eqb, ne-eqb}
+use borrow.Author.Tests.{lt-ltb, le-ltb, ne-eqb}
 use Rattle.rectangle.specs.declared.Rect.{Rect}
 use Rattle.rectangle.specs.Edit.{draw}
 use Rattle.port.specs.declared.View.{View}
 use Rattle.port.specs.declared.Port.{Port}
-use Rattle.port.specs.Valid.{parameters, ValidView}
+use Rattle.port.specs.Valid.{parameters}
 use Rattle.port.specs.Effect.{Effect, becomes}
 use Rattle.port.specs.Codes.{setPortSize, spaces, dleSpaceExpansion}
 use Rattle.port.specs.Step.{Outcome, becomesPort, onView, control, obey, perform, parameter, step}

@@ -129,7 +129,7 @@ fn parameter(screen: &mut [u8], table: &[u8; 768], home: Rect, a: Active, b: u8)
 }
 
 // A parameter, or a control code but $01 and $04.
-pub fn obey_byte(screen: &mut [u8], table: &[u8; 768], home: Rect, a: Active, b: u8) -> Active
+pub fn step(screen: &mut [u8], table: &[u8; 768], home: Rect, a: Active, b: u8) -> Active
     requires { ⌜ Placed (a .view) × (a .count < 4) × Agrees (now table) × (length (now screen) ≡ 1920) × (a .waiting ≡ 0 → (b < 32) × (b ≡ 1 → ⊥) × (b ≡ 4 → ⊥)) × ((a .waiting ≡ 0 → ⊥) → 0 < parameters (a .waiting)) ⌝ }
     ensures { λ r. ⌜ ObeysAt home (λ p. rules.step p b) a r (now (screen .entry)) (now (screen .exit)) ⌝ }
 {

@@ -1,4 +1,4 @@
-// The executor: the loop over the bytes of a stream. It knows which bytes are printed, which touch what is saved and which ring; `printer` and `control` do the rest.
+// The executor: the loop over the bytes of a stream. It tells apart the bytes that are printed, those that touch what is saved and those that ring; `printer` and `control` do the rest.
 mod saved;
 
 use charset::stored_alone;
@@ -6,7 +6,7 @@ use charset::table_copy;
 use control::active::active_of;
 use control::active::with_active;
 use control::active::with_view;
-use control::obey_byte;
+use control::step;
 use port::Port;
 use port::state;
 use printer::print_byte;
@@ -49,7 +49,8 @@ fn bells_of(waiting: u8, b: u8) -> usize
     if (waiting == 0) & (b == 0x07) { 1 } else { 0 }
 }
 
-// Each byte of the stream in its order. The table is made once, and lent to each byte; of the port the active part is carried from byte to byte, and $01 and $04 alone join it to the rest and split it off again.
+// Each byte of the stream in its order. The table is made once, and lent to each byte.
+// Of the port its active part is carried from byte to byte: $01 and $04 alone join it to the rest and split it off again.
 pub fn carry_stream(screen: &mut [u8], p: Port, bytes: &[u8]) -> Progress
     requires { ⌜ Valid p × (length (now screen) ≡ 1920) ⌝ }
     ensures { λ r. ⌜ Carried (stream p (now (bytes .entry))) (r .port) (r .bells) (now (screen .entry)) (now (screen .exit)) ⌝ }
@@ -76,7 +77,7 @@ pub fn carry_stream(screen: &mut [u8], p: Port, bytes: &[u8]) -> Progress
             continue;
         }
         bells += bells_of(active.waiting, b);
-        active = obey_byte(screen, &table, home, active, b);
+        active = step(screen, &table, home, active, b);
         i += 1;
     }
     Progress {
@@ -98,7 +99,7 @@ pub fn carry_single(screen: &mut [u8], p: Port, b: u8) -> Progress
             bells: 0,
         };
     }
-    // A copy is lent: a port that is lent itself lies in memory on the other way too.
+    // A copy is handed on: so the port itself need not lie in memory where a code is printed.
     let port = p;
     let bytes = [b; 1];
     carry_stream(screen, port, &bytes)

@@ -20,6 +20,12 @@ pub record KeepsPort (p : Port) (m : Outcome) : Type 0 where
   pub home : m .port .home ≡ p .home
   pub edits : AllWithin (p .view .viewport) (m .edits)
 
+-- of a byte that touches neither home nor what is saved
+pub record KeepsSaved (p : Port) (m : Outcome) : Type 0 where
+  pub home : m .port .home ≡ p .home
+  pub hassaved : m .port .hassaved ≡ p .hassaved
+  pub saved : m .port .saved ≡ p .saved
+
 -- of a stream: a viewport that was set on the way lies inside home too
 pub record KeepsHome (p : Port) (m : Outcome) : Type 0 where
   pub valid : Valid (m .port)

@@ -1,3 +1,4 @@
+-- `control::control` meets its contract: an arm for each code, where the definition computes; each edits inside the viewport. In the last one the code is $1F, since it is none of the others. Assumes nothing.
 use borrow.Author.Needs.{needs}
 use Rattle.port.specs.Step.{control}
 use Rattle.control.proofs.Arms.{moved-on-screen, both-on-screen, keeps, arms, at-code, last-code}

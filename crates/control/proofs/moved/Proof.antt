@@ -1,3 +1,4 @@
+-- `control::moved` meets its contract: what was drawn is the plan, as an effect. Assumes nothing.
 use borrow.Author.Needs.{needs}
 use Rattle.control.proofs.Arms.{in-view}
 use Rattle.control.proofs.moved.Statement.{statement}

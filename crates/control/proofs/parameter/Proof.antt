@@ -1,3 +1,4 @@
+-- `control::parameter` meets its contract: the test is the definition's, by what `parameters` returns. Assumes nothing.
 use borrow.Author.Needs.{needs}
 use Rattle.control.proofs.Arms.{is-gathered, is-last}
 use Rattle.control.proofs.parameter.Statement.{statement}

@@ -1,3 +1,4 @@
+-- `control::perform` meets its contract: an arm for each command that takes parameters; the last one is the only one left. Assumes nothing.
 use borrow.Author.Needs.{needs}
 use Rattle.port.specs.Step.{perform}
 use Rattle.printer.proofs.Printing.{stored-as}

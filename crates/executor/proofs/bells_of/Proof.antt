@@ -1,3 +1,4 @@
+-- `executor::bells_of` meets its contract: the test is the contract's. Assumes nothing.
 use Rattle.laws.proofs.Choices.{choices}
 use Rattle.executor.proofs.bells_of.Statement.{statement}
 use Rattle.executor.proofs.bells_of.Tie as tie

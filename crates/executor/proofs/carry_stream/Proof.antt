@@ -112,8 +112,8 @@ add-bells c =
     let fits = c .before .before .before .before .before .before .before .before .before .before .before .before .before .good .1 .1 in
     omega arith
 
-obey-byte-requires : tie.Need-obey-byte-requires Inv-loop μ-loop
-obey-byte-requires c κs =
+step-requires : tie.Need-step-requires Inv-loop μ-loop
+step-requires c κs =
     let at = c .before .before .before .before .before .before .before .before .before .loop in
     let b = getD (c .before .before .before .before .before .before .before .before .before .before .before .before .before .before .before .args .bytes .now) (at .i) 0 in
     let port = withActive (at .port) (at .active) in
@@ -133,7 +133,7 @@ loop-less-3 c =
 loop-again-3 : tie.Need-loop-again-3 Inv-loop μ-loop
 loop-again-3 c =
     let at = c .before .before .before .before .before .before .before .before .before .before .before .before .loop in
-    (after-control (at .port) (at .active) (at .inv .0) _ _ (c .before .before .obey-byte .ensures (at .port) (at .inv .2)) (c .before .before .before .before .before .bells-of .ensures) (c .before .before .before .before .before .before .before .before .before .before .before .loop-test .taken), at .inv .1, at .inv .2)
+    (after-control (at .port) (at .active) (at .inv .0) _ _ (c .before .before .step .ensures (at .port) (at .inv .2)) (c .before .before .before .before .before .bells-of .ensures) (c .before .before .before .before .before .before .before .before .before .before .before .loop-test .taken), at .inv .1, at .inv .2)
 
 with-active-requires-2 : tie.Need-with-active-requires-2 Inv-loop μ-loop
 with-active-requires-2 c κs = search needs
@@ -171,7 +171,7 @@ carry-stream-spec =
     loop-again-2
     bells-of-requires
     add-bells
-    obey-byte-requires
+    step-requires
     add-i-3
     loop-less-3
     loop-again-3

@@ -1,4 +1,4 @@
-use native.Mathlib.Omega.{arith}
+-- `printer::print_codes` meets its contract: a run, with the cursor after it, or one code. Assumes nothing.
 use borrow.Author.Needs.{needs}
 use Rattle.printer.proofs.Printing.{stored-as}
 use Rattle.printer.proofs.Codes.{byte-on-screen, printed-to, one-printed}

@@ -1,3 +1,4 @@
+-- `printer::print_run` meets its contract: a run that was stored in the line is printed; without advance there is none. Assumes nothing.
 use native.Mathlib.Omega.{arith}
 use borrow.Author.Needs.{needs}
 use Rattle.printer.proofs.Codes.{run-fits, run-printed, none-printed}

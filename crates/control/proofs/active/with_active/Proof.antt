@@ -1,3 +1,4 @@
+-- `control::active::with_active` meets its contract: two setters of `port`, one after the other. Assumes nothing.
 use borrow.Author.Needs.{needs}
 use Rattle.control.proofs.Arms.{put-back}
 use Rattle.control.proofs.active.with_active.Statement.{statement}

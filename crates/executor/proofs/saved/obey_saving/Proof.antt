@@ -1,3 +1,4 @@
+-- `executor::saved::obey_saving` meets its contract: $01, or else $04. Assumes nothing.
 use borrow.Author.Needs.{needs}
 use Rattle.port.specs.Step.{control}
 use Rattle.executor.proofs.Carrying.{saves-as, other-saves}

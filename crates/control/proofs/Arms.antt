@@ -1,9 +1,7 @@
 -- What the arms of a `match` on a code come to: each is the outcome that paper 01's definitions give its code. Assumes nothing.
 use Prim.Native.Nat.{ℕ, zero, suc, _+_, _≤_, _<_}
 use mathlib.Core.Path.{_≡_, refl, sym, ap, _∙_, subst}
-use mathlib.Core.Bool.{cond}
 use mathlib.Core.List.{List, []}
-use lib.Dec.{ltb}
 use native.Mathlib.Omega.{arith}
 use borrow.Author.Tests.{lt-ltb, le-ltb, ne-eqb}
 use Rattle.rectangle.specs.declared.Rect.{Rect}
@@ -13,32 +11,36 @@ use Rattle.port.specs.declared.Port.{Port}
 use Rattle.port.specs.Valid.{parameters}
 use Rattle.port.specs.Effect.{Effect, becomes}
 use Rattle.port.specs.Codes.{setPortSize, spaces, dleSpaceExpansion}
-use Rattle.port.specs.Step.{Outcome, becomesPort, onView, control, obey, perform, parameter, step}
+use Rattle.port.specs.Step.{Outcome, becomesPort, onView, control, perform, parameter, step}
 use Rattle.port.specs.State as state
 use Rattle.port.specs.Step as port
 use Rattle.port.specs.Keeps.{KeepsView}
+use Rattle.port.proofs.Prints.{step-controls}
 use Rattle.port.proofs.Views.{keeps-right, keeps-line-start, keeps-line-end, keeps-clear-line, keeps-clear-port, keeps-port-start, keeps-port-end, keeps-horizontal-scroll, keeps-backspace, keeps-line-feed, keeps-return, keeps-moves, keeps-up, keeps-spaces}
 use Rattle.view.specs.declared.Moved.{Moved}
 use Rattle.view.specs.declared.ViewPlan.{ViewPlan}
 use Rattle.view.specs.Plan.{effectOf, planEffect}
 use Rattle.view.specs.Place.{spaceCount}
 use Rattle.view.proofs.Places.{spaces-are}
-use Rattle.printer.specs.Carry.{AllOnScreen, Drew}
+use Rattle.printer.specs.Carry.{AllOnScreen, Drew, Obeyed}
 use Rattle.printer.specs.Print.{Placed}
 use Rattle.printer.proofs.Draws.{on-screen}
 use Rattle.control.specs.declared.active.Active.{Active}
 use Rattle.control.specs.Active.{withActive, withView, waitFor, gatherOne}
-use Rattle.control.specs.Obey.{Obeyed}
 
 -- what keeps a view that is placed edits on the screen only
 on-screen-effect : {v : View} {e : Effect} → Placed v → KeepsView (v .viewport) v e → AllOnScreen (e .edits)
 on-screen-effect {v} {e} h k = on-screen (v .viewport) (h .legal .right-in) (h .legal .bottom-in) (e .edits) (k .edits)
 
-pub moved-on-screen : (m : Moved) {v : View} {e : Effect} → effectOf m ≡ e → Placed v → KeepsView (v .viewport) v e → AllOnScreen (effectOf m .edits)
-moved-on-screen m is h k = subst (λ (x : Effect). AllOnScreen (x .edits)) (sym is) (on-screen-effect h k)
+plan-on-screen : (d : Effect) {v : View} {e : Effect} → d ≡ e → Placed v → KeepsView (v .viewport) v e → AllOnScreen (d .edits)
+plan-on-screen d is h k = subst (λ (x : Effect). AllOnScreen (x .edits)) (sym is) (on-screen-effect h k)
 
-pub both-on-screen : (m : ViewPlan) {v : View} {e : Effect} → planEffect m ≡ e → Placed v → KeepsView (v .viewport) v e → AllOnScreen (planEffect m .edits)
-both-on-screen m is h k = subst (λ (x : Effect). AllOnScreen (x .edits)) (sym is) (on-screen-effect h k)
+-- of a plan of one edit, and of two: a search finds the plan by its type
+pub moved-on-screen : (m : Moved) {v : View} {e : Effect} → effectOf m ≡ e → Placed v → KeepsView (v .viewport) v e → AllOnScreen (effectOf m .edits)
+moved-on-screen m = plan-on-screen (effectOf m)
+
+pub planned-on-screen : (m : ViewPlan) {v : View} {e : Effect} → planEffect m ≡ e → Placed v → KeepsView (v .viewport) v e → AllOnScreen (planEffect m .edits)
+planned-on-screen m = plan-on-screen (planEffect m)
 
 pub spaces-on-screen : (n : ℕ) (v : View) → Placed v → AllOnScreen (spaces n v .edits)
 spaces-on-screen n v h = on-screen-effect h (keeps-spaces (v .viewport) n v h)
@@ -91,8 +93,8 @@ pub in-view : (a : Active) {r : Active} {u v : View} → r ≡ withView a u → 
 in-view a is same = is ∙ ap (withView a) same
 
 -- the active part is put back by two setters
-pub put-back : (p : Port) (a : Active) {q r : Port} → q ≡ state.withView p (a .view) → r ≡ state.withWait q (a .waiting) (a .gathered) (a .count) → r ≡ withActive p a
-put-back p a first second = second ∙ ap (λ (x : Port). state.withWait x (a .waiting) (a .gathered) (a .count)) first
+pub active-joined : (p : Port) (a : Active) {q r : Port} → q ≡ state.withView p (a .view) → r ≡ state.withWait q (a .waiting) (a .gathered) (a .count) → r ≡ withActive p a
+active-joined p a first second = second ∙ ap (λ (x : Port). state.withWait x (a .waiting) (a .gathered) (a .count)) first
 
 -- what each code keeps, so that it edits inside the viewport
 pub ruleset keeps = (keeps-line-start, keeps-line-end, keeps-clear-line, keeps-clear-port, keeps-port-start, keeps-port-end, keeps-horizontal-scroll, keeps-backspace, keeps-line-feed, keeps-return, keeps-moves, keeps-right, keeps-up)
@@ -147,14 +149,6 @@ module _ (p : Port) (a : Active) (b n : ℕ) (takes : n ≡ parameters (a .waiti
   is-last last h = simp (le-ltb (a .count + 1) (parameters (a .waiting)) (omega arith)) h
 
 -- a byte is a control code or a parameter
-obey-controls : (p : Port) (code : ℕ) → code < 32 → obey p code ≡ control p code
-unfolding obey
-obey-controls p code small = simp (lt-ltb code 32 small)
-
-pub step-controls : (p : Port) (b : ℕ) → p .waiting ≡ 0 → b < 32 → step p b ≡ control p b
-unfolding step parameters
-step-controls p b none small = ap (λ (code : ℕ). cond (ltb 0 (parameters code)) (parameter p b) (obey p b)) none ∙ obey-controls p b small
-
 module _ (p : Port) (b : ℕ) {x : Port} {s t : List ℕ} where
   pub is-code : p .waiting ≡ 0 → b < 32 → Obeyed (control p b) x s t → Obeyed (step p b) x s t
   is-code none small h = subst (λ (m : Outcome). Obeyed m x s t) (sym (step-controls p b none small)) h

@@ -6,36 +6,38 @@ use active::gather_one;
 use active::wait_for;
 use active::with_view;
 use charset::stored_byte;
-use port::state::with_modes;
 use port::valid::parameters;
-use printer::draw::draw_both;
 use printer::draw::draw_moved;
+use printer::draw::draw_plan;
 use printer::print_spaces;
 use rectangle::Rect;
 use view::Moved;
 use view::ViewPlan;
 use view::cursor;
+use view::disable_mousetext;
+use view::enable_mousetext;
 use view::erase;
 use view::mode_of;
 use view::place;
 use view::scroll_down;
 use view::scroll_up;
 use view::set_cursor_movement;
+use view::set_inverse;
+use view::set_normal;
 use view::space_count;
-ghost use Prim.Native.Nat.{_≤_, _<_};
+ghost use Prim.Native.Nat.{_<_};
 ghost use mathlib.Core.Path.{_≡_};
 ghost use lib.ListN.{length};
 ghost use Rattle.rectangle.specs.Edit.{draw};
 ghost use Rattle.charset.specs.Stored.{Agrees};
-ghost use Rattle.port.specs.Valid.{parameters};
 ghost use Rattle.port.specs.Step as rules;
 ghost use Rattle.view.specs.Plan.{effectOf, planEffect};
 ghost use Rattle.printer.specs.Carry.{AllOnScreen};
 ghost use Rattle.printer.specs.Print.{Placed};
 ghost use Rattle.control.specs.Active.{withView};
-ghost use Rattle.control.specs.Obey.{Obeys, ObeysAt};
+ghost use Rattle.control.specs.Obey.{Ready, Obeys, ObeysAt};
 
-// The view that a code plans, with at most one edit.
+// The view that a code plans, with at most one edit, is drawn.
 fn moved(screen: &mut [u8], a: Active, to: Moved) -> Active
     requires { ⌜ AllOnScreen (effectOf to .edits) × (length (now screen) ≡ 1920) ⌝ }
     ensures { λ r. ⌜ (r ≡ withView a (effectOf to .view)) × (now (screen .exit) ≡ draw (effectOf to .edits) (now (screen .entry))) ⌝ }
@@ -44,11 +46,11 @@ fn moved(screen: &mut [u8], a: Active, to: Moved) -> Active
 }
 
 // The same with at most two.
-fn moved_twice(screen: &mut [u8], a: Active, to: ViewPlan) -> Active
+fn planned(screen: &mut [u8], a: Active, to: ViewPlan) -> Active
     requires { ⌜ AllOnScreen (planEffect to .edits) × (length (now screen) ≡ 1920) ⌝ }
     ensures { λ r. ⌜ (r ≡ withView a (planEffect to .view)) × (now (screen .exit) ≡ draw (planEffect to .edits) (now (screen .entry))) ⌝ }
 {
-    with_view(a, draw_both(screen, to))
+    with_view(a, draw_plan(screen, to))
 }
 
 // A control code but $01 and $04, which touch what is saved: each by its own arm, and the last is $1F. The bell of $07 is the caller's to count.
@@ -67,23 +69,23 @@ fn control(screen: &mut [u8], a: Active, code: u8) -> Active
         0x08 => moved(screen, a, cursor::backspace(v)),
         0x09 => a,
         0x0A => moved(screen, a, cursor::line_feed(v)),
-        0x0B => moved_twice(screen, a, erase::clear_to_port_end(v)),
+        0x0B => planned(screen, a, erase::clear_to_port_end(v)),
         0x0C => moved(screen, a, erase::clear_port_and_home(v)),
         0x0D => moved(screen, a, cursor::carriage_return(v)),
-        0x0E => with_view(a, with_modes(v, false, v.mousetext)),
-        0x0F => with_view(a, with_modes(v, true, v.mousetext)),
+        0x0E => with_view(a, set_normal(v)),
+        0x0F => with_view(a, set_inverse(v)),
         0x10 => wait_for(a, 0x10),
         0x11 => a,
         0x12 => a,
-        0x13 => moved_twice(screen, a, erase::clear_from_port_start(v)),
+        0x13 => planned(screen, a, erase::clear_from_port_start(v)),
         0x14 => wait_for(a, 0x14),
         0x15 => wait_for(a, 0x15),
         0x16 => moved(screen, a, scroll_down(v)),
         0x17 => moved(screen, a, scroll_up(v)),
-        0x18 => with_view(a, with_modes(v, v.inverse, false)),
+        0x18 => with_view(a, disable_mousetext(v)),
         0x19 => with_view(a, place::home_cursor(v)),
         0x1A => moved(screen, a, erase::clear_line(v)),
-        0x1B => with_view(a, with_modes(v, v.inverse, true)),
+        0x1B => with_view(a, enable_mousetext(v)),
         0x1C => moved(screen, a, cursor::move_cursor_right(v)),
         0x1D => moved(screen, a, erase::clear_to_line_end(v)),
         0x1E => wait_for(a, 0x1E),
@@ -130,7 +132,7 @@ fn parameter(screen: &mut [u8], table: &[u8; 768], home: Rect, a: Active, b: u8)
 
 // A parameter, or a control code but $01 and $04.
 pub fn step(screen: &mut [u8], table: &[u8; 768], home: Rect, a: Active, b: u8) -> Active
-    requires { ⌜ Placed (a .view) × (a .count < 4) × Agrees (now table) × (length (now screen) ≡ 1920) × (a .waiting ≡ 0 → (b < 32) × (b ≡ 1 → ⊥) × (b ≡ 4 → ⊥)) × ((a .waiting ≡ 0 → ⊥) → 0 < parameters (a .waiting)) ⌝ }
+    requires { ⌜ Ready a b × Agrees (now table) × (length (now screen) ≡ 1920) ⌝ }
     ensures { λ r. ⌜ ObeysAt home (λ p. rules.step p b) a r (now (screen .entry)) (now (screen .exit)) ⌝ }
 {
     if a.waiting == 0 {

@@ -8,11 +8,11 @@ use native.Mathlib.Omega.{arith}
 use native.Mathlib.Nat.{add-assoc, add-zero, zero-add}
 use lib.Dec.{leb, ltb, eqb}
 use lib.ListN.{length, take, drop, getD, take-append-drop}
-use lib.Seq.{drop-drop}
+use lib.Seq.{drop-drop, drop-length}
 use borrow.Author.Tests.{eqb-true, eqb-false, eq-eqb, ne-eqb, leb-true, leb-false, lt-ltb}
 use Rattle.laws.proofs.Tests.{by-test, and-left, and-right}
+use Rattle.laws.proofs.Lists.{alone-taken}
 use Rattle.rectangle.specs.Edit.{draw}
-use Rattle.screen.proofs.Runs.{alone-taken}
 use Rattle.charset.specs.Stored.{storedByte}
 use Rattle.port.specs.declared.View.{View}
 use Rattle.port.specs.declared.Port.{Port}
@@ -24,15 +24,15 @@ use Rattle.port.specs.Stream.{stream}
 use Rattle.port.proofs.Validity.{no-parameters}
 use Rattle.port.proofs.Streams.{keeps-stream}
 use Rattle.port.proofs.Bells.{step-bells, one-bell}
-use Rattle.printer.specs.Carry.{Drew, Carried}
+use Rattle.port.proofs.Prints.{step-controls}
+use Rattle.printer.specs.Carry.{Drew, Obeyed, Carried}
 use Rattle.printer.specs.Print.{Placed, Printed}
 use Rattle.printer.proofs.Draws.{length-draw}
 use Rattle.printer.proofs.Codes.{cut-carried, nothing-carried, single-carried, code-carried}
 use Rattle.control.specs.declared.active.Active.{Active}
 use Rattle.control.specs.Active.{activeOf, withActive}
 use Rattle.control.specs.Active as active
-use Rattle.control.specs.Obey.{Obeyed}
-use Rattle.control.proofs.Arms.{step-controls}
+use Rattle.control.specs.Obey.{Ready}
 
 -- the cells stay 1,920
 pub same-size : {m : Outcome} {q : Port} {n : ℕ} {s t : List ℕ} → Carried m q n s t → length s ≡ 1920 → length t ≡ length s
@@ -50,14 +50,14 @@ at-most-four code =
     by-test (λ (n : ℕ). n ≤ 4) (eqb code 0x15) (λ _. omega arith) λ _.
     by-test (λ (n : ℕ). n ≤ 4) (eqb code 0x1e) (λ _. omega arith) (λ _. omega arith)
 
-pub few-gathered : (p : Port) → Valid p → p .count < 4
+few-gathered : (p : Port) → Valid p → p .count < 4
 few-gathered p h =
     ⊎-elim (λ e. let k = h .wait .none e in omega arith) (λ some. let k = h .wait .fewer some in omega (arith, at-most-four (p .waiting))) (h .wait .known)
 
 pub placed-view : (p : Port) → Valid p → Placed (p .view)
 placed-view p h = let v = h .view in record { legal = v .legal; within = omega arith; from-left = v .from-left; to-right = v .to-right; from-top = v .from-top; to-bottom = v .to-bottom }
 
-pub some-wanted : (p : Port) → Valid p → (p .waiting ≡ 0 → ⊥) → 0 < parameters (p .waiting)
+some-wanted : (p : Port) → Valid p → (p .waiting ≡ 0 → ⊥) → 0 < parameters (p .waiting)
 some-wanted p h waits = ⊎-elim (λ e. absurd (waits e)) (λ some. some) (h .wait .known)
 
 -- what the tests of the code show: a printing code, $01 or $04, or another control code
@@ -92,6 +92,11 @@ is-controlled waiting b printed saved is f is′ f′ none =
     let other = neither b (rw (eq-eqb waiting 0 none) at (sym is′ ∙ f′)) in
     (leb-false 32 b (rw (eq-eqb waiting 0 none) at (sym is ∙ f)), other .0, other .1)
 
+pub is-ready : (p : Port) (a : Active) (b : ℕ) → Valid (withActive p a) → (a .waiting ≡ 0 → (b < 32) × (b ≡ 1 → ⊥) × (b ≡ 4 → ⊥)) → Ready a b
+is-ready p a b h code =
+    let q : Port = withActive p a in
+    record { placed = placed-view q h; few = few-gathered q h; code = code; wanted = some-wanted q h }
+
 -- the bells of a byte by the code's own test: where a command waits it wants a parameter
 rung-by : (p : Port) (b : ℕ) → Valid p → {n : ℕ} → n ≡ cond (eqb (p .waiting) 0 && eqb b 7) 1 0 → n ≡ step p b .bells
 unfolding parameters
@@ -114,7 +119,7 @@ at-most-one waiting b {n} is = subst (λ (k : ℕ). k ≤ 1) (sym is) (by-test (
 pub in-view : {q : Port} (p : Port) (u v : View) → q ≡ withView p u → u ≡ v → q ≡ withView p v
 in-view p u v e f = e ∙ ap (withView p) f
 
--- $01 or $04: none else is saved
+-- of the two codes, the one that is not $01 is $04
 pub other-saves : (code : ℕ) → (code ≡ 1) ⊎ (code ≡ 4) → (code ≡ 1 → ⊥) → code ≡ 4
 other-saves code either other = ⊎-elim (λ e. absurd (other e)) (λ e. e) either
 
@@ -144,18 +149,17 @@ pub record Streaming (p₀ : Port) (bs s₀ : List ℕ) (i : ℕ) (p : Port) (ru
   pub rest : (q : Port) (n : ℕ) (t : List ℕ) → Carried (stream p (drop i bs)) q n s t → Carried (stream p₀ bs) q (rung + n) s₀ t
 
 pub streaming-starts : (p : Port) (bs s : List ℕ) {a : Active} → Valid p → length s ≡ 1920 → a ≡ activeOf p → Streaming p bs s 0 (withActive p a) 0 s
-streaming-starts p bs s h len is = subst (λ (x : Active). Streaming p bs s 0 (withActive p x) 0 s) (sym is) (record { long = len; valid = h; within = omega arith; few = omega arith; rest = λ q n t d. record { port-is = d .port-is; bells-are = zero-add n ∙ d .bells-are; cells = d .cells } })
-
--- nothing is left
-drop-all : (bs : List ℕ) (i : ℕ) → length bs ≤ i → drop i bs ≡ []
-drop-all [] zero h = refl
-drop-all [] (suc i) h = refl
-drop-all (b ∷ bs) zero h = absurd (omega arith)
-drop-all (b ∷ bs) (suc i) h = drop-all bs i (omega arith)
+streaming-starts p bs s h len is = subst (λ (x : Active). Streaming p bs s 0 (withActive p x) 0 s) (sym is) (record {
+  long = len;
+  valid = h;
+  within = omega arith;
+  few = omega arith;
+  rest = λ q n t d. record { port-is = d .port-is; bells-are = zero-add n ∙ d .bells-are; cells = d .cells };
+})
 
 module _ {p₀ : Port} {bs s₀ : List ℕ} {i : ℕ} {p : Port} {rung : ℕ} {s : List ℕ} (r : Streaming p₀ bs s₀ i p rung s) where
   -- n bytes, which ring k times
-  pub streaming-on : (q : Port) (n k : ℕ) (t : List ℕ) → i + n ≤ length bs → k ≤ n → Carried (stream p (take n (drop i bs))) q k s t → Streaming p₀ bs s₀ (i + n) q (rung + k) t
+  streaming-on : (q : Port) (n k : ℕ) (t : List ℕ) → i + n ≤ length bs → k ≤ n → Carried (stream p (take n (drop i bs))) q k s t → Streaming p₀ bs s₀ (i + n) q (rung + k) t
   streaming-on q n k t inside few d = record {
     long = same-size d (r .long) ∙ r .long;
     valid = subst Valid (sym (d .port-is)) (keeps-stream p (r .valid) (take n (drop i bs)) .valid);
@@ -168,17 +172,20 @@ module _ {p₀ : Port} {bs s₀ : List ℕ} {i : ℕ} {p : Port} {rung : ℕ} {s
         (cut-carried p q w (take n (drop i bs)) (drop (i + n) bs) k m s t u d e)));
   }
 
-  pub streaming-again : (q : Port) (k : ℕ) (t : List ℕ) → i < length bs → Carried (step p (getD bs i 0)) q k s t → Streaming p₀ bs s₀ (i + 1) q (rung + k) t
+  streaming-again : (q : Port) (k : ℕ) (t : List ℕ) → i < length bs → Carried (step p (getD bs i 0)) q k s t → Streaming p₀ bs s₀ (i + 1) q (rung + k) t
   streaming-again q k t more d =
       let one = one-bell p (getD bs i 0) in
       let is = d .bells-are in
       streaming-on q 1 k t (omega arith) (omega arith)
       (subst (λ (x : List ℕ). Carried (stream p x) q k s t) (sym (alone-taken bs i more)) (single-carried p q (getD bs i 0) k s t d))
 
+  -- nothing is left
   pub streaming-ends : length bs ≤ i → Carried (stream p₀ bs) p rung s₀ s
   streaming-ends past =
+      let end : i ≡ length bs = let h = r .within in omega arith in
+      let none : drop i bs ≡ [] = ap (λ (n : ℕ). drop n bs) end ∙ drop-length bs in
       subst (λ (x : ℕ). Carried (stream p₀ bs) p x s₀ s) (add-zero rung)
-      (r .rest p 0 s (subst (λ (x : List ℕ). Carried (stream p x) p 0 s s) (sym (drop-all bs i past)) (nothing-carried p s)))
+      (r .rest p 0 s (subst (λ (x : List ℕ). Carried (stream p x) p 0 s s) (sym none) (nothing-carried p s)))
 
 -- ---- the three ways through the loop, from a port whose active part is carried apart
 module _ {p₀ : Port} {bs s₀ : List ℕ} {i : ℕ} (p : Port) (a : Active) {rung : ℕ} {s : List ℕ} (r : Streaming p₀ bs s₀ i (withActive p a) rung s) where

@@ -1,4 +1,4 @@
-// The executor: the loop over the bytes of a stream. It tells apart the bytes that are printed, those that touch what is saved and those that ring; `printer` and `control` do the rest.
+// The executor: the loop over the bytes of a stream. Printing codes go to `printer`; $01 and $04, which touch what is saved, are obeyed here; all other bytes go to `control`. It counts the bells.
 mod saved;
 
 use charset::stored_alone;
@@ -11,7 +11,7 @@ use port::Port;
 use port::state;
 use printer::print_byte;
 use printer::print_codes;
-use saved::obey_saving;
+use saved::obey_on_saved;
 use view::mode_of;
 ghost use mathlib.Core.Path.{_≡_};
 ghost use mathlib.Core.Bool.{cond, _&&_, _||_};
@@ -35,8 +35,8 @@ fn prints(waiting: u8, b: u8) -> bool
     (waiting == 0) & (32 <= b)
 }
 
-// Whether it is $01 or $04.
-fn saves(waiting: u8, b: u8) -> bool
+// Whether it is $01 or $04, and no parameter.
+fn touches_saved(waiting: u8, b: u8) -> bool
     ensures { λ r. ⌜ r ≡ (eqb waiting 0 && (eqb b 1 || eqb b 4)) ⌝ }
 {
     (waiting == 0) & ((b == 0x01) | (b == 0x04))
@@ -69,9 +69,9 @@ pub fn carry_stream(screen: &mut [u8], p: Port, bytes: &[u8]) -> Progress
             i += printed.count;
             continue;
         }
-        if saves(active.waiting, b) {
+        if touches_saved(active.waiting, b) {
             let joined = with_active(port, active);
-            port = obey_saving(joined, b);
+            port = obey_on_saved(joined, b);
             active = active_of(port);
             i += 1;
             continue;

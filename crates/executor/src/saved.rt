@@ -27,7 +27,7 @@ fn pop(p: Port) -> Port
 }
 
 // The one or the other.
-pub fn obey_saving(p: Port, code: u8) -> Port
+pub fn obey_on_saved(p: Port, code: u8) -> Port
     requires { ⌜ (code ≡ 1) ⊎ (code ≡ 4) ⌝ }
     ensures { λ r. ⌜ rules.becomesPort r ≡ rules.control p code ⌝ }
 {

@@ -1,3 +1,4 @@
--- For the proofs of every crate. `Tests`: from a test to a fact and back. `Choices`: a chain of choices, as code and definitions have it.
+-- For the proofs of every crate. `Tests`: from a test to a fact and back. `Choices`: a chain of choices, as code and definitions have it. `Lists`: elements taken from a place of a list on.
 pub mod Tests
 pub mod Choices
+pub mod Lists

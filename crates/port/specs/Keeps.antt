@@ -1,4 +1,4 @@
--- What the laws of a step say: it keeps validity and home, and each of its edits lies inside the viewport. Assumes nothing.
+-- What the laws of a step say: it keeps validity and home, and each of its edits lies inside the viewport; all bytes but $01 and $04 leave what is saved alone too. Assumes nothing.
 use mathlib.Core.Path.{_≡_}
 use Rattle.rectangle.specs.declared.Rect.{Rect}
 use Rattle.rectangle.specs.Local.{AllWithin}

@@ -7,6 +7,7 @@ use native.Mathlib.Omega.{arith}
 use native.Mathlib.Nat.{add-zero}
 use lib.ListN.{length, getD, take, drop}
 use borrow.Author.Tests.{lt-ltb}
+use Rattle.laws.proofs.Lists.{alone-taken, taken-length}
 use Rattle.rectangle.specs.declared.Edit.{Edit}
 use Rattle.rectangle.specs.declared.Motion.the-variants.{Clear}
 use Rattle.rectangle.specs.Rectangles.{cellAt}
@@ -15,7 +16,6 @@ use Rattle.rectangle.proofs.Local.{draw-append}
 use Rattle.charset.specs.declared.Mode.{Mode}
 use Rattle.charset.specs.Stored.{storedByte}
 use Rattle.screen.specs.Run.{AllPrinting, storedRun, RunStored}
-use Rattle.screen.proofs.Runs.{alone-taken, taken-length}
 use Rattle.port.specs.declared.View.{View}
 use Rattle.port.specs.declared.Port.{Port}
 use Rattle.port.specs.State.{zeroPort, withView, cursorAt}
@@ -100,7 +100,7 @@ prints-left v byte s on less =
     let moves = sym (advances v on less) in
     record { view = ap (λ (e : Effect). e .view) moves; cells = ap (λ (e : Effect). draw (e .edits) (edited (cellAt (v .column) (v .line)) Clear byte s)) moves }
 
--- codes that stay left of it: by the first of them, and the others
+-- codes that stay left of the right edge: the first, and then the others
 run-carried : (codes : List ℕ) (p : Port) (s : List ℕ) → p .view .flags .advance ≡ true → p .view .column + length codes ≤ p .view .viewport .right → AllPrinting codes → p .waiting ≡ 0
     → Carried (stream p codes) (withView p (cursorAt (p .view) (p .view .column + length codes) (p .view .line))) 0 s (storedRun (modeOf (p .view)) (p .view .column) (p .view .line) codes s)
 unfolding storedRun modeOf

@@ -61,8 +61,8 @@ module _ (m : ViewPlan) where
   pub second-on-screen : AllOnScreen (planEffect m .edits) → AllOnScreen (changeList (m .second))
   second-on-screen all = back-on-screen (changeList (m .first)) (changeList (m .second)) all
 
-  pub drew-both : {s s₁ t : List ℕ} → s₁ ≡ draw (changeList (m .first)) s → t ≡ draw (changeList (m .second)) s₁ → Drew (planEffect m) (m .view) s t
-  drew-both {s} one two = record {
+  pub drew-plan : {s s₁ t : List ℕ} → s₁ ≡ draw (changeList (m .first)) s → t ≡ draw (changeList (m .second)) s₁ → Drew (planEffect m) (m .view) s t
+  drew-plan {s} one two = record {
     view = refl;
     cells = two ∙ ap (draw (changeList (m .second))) one ∙ sym (draw-append (changeList (m .first)) (changeList (m .second)) s);
   }

@@ -1,4 +1,4 @@
--- What it is to carry plans out on a screen. Assumes nothing.
+-- What it is to carry an effect or an outcome out on a screen. Assumes nothing.
 use Prim.Native.Nat.{ℕ}
 use mathlib.Core.Path.{_≡_}
 use mathlib.Core.List.{List, [], _∷_}
@@ -20,7 +20,12 @@ pub record Drew (e : Effect) (v : View) (s t : List ℕ) : Type 0 where
   pub view : v ≡ e .view
   pub cells : t ≡ draw (e .edits) s
 
--- an outcome was carried out
+-- an outcome was drawn, whatever it rings
+pub record Obeyed (m : Outcome) (port : Port) (s t : List ℕ) : Type 0 where
+  pub port-is : port ≡ m .port
+  pub cells : t ≡ draw (m .edits) s
+
+-- .. and it rang so often
 pub record Carried (m : Outcome) (port : Port) (bells : ℕ) (s t : List ℕ) : Type 0 where
   pub port-is : port ≡ m .port
   pub bells-are : bells ≡ m .bells

@@ -32,7 +32,7 @@ pub fn draw_moved(screen: &mut [u8], to: Moved) -> View
 }
 
 // At most two edits, in their order.
-pub fn draw_both(screen: &mut [u8], to: ViewPlan) -> View
+pub fn draw_plan(screen: &mut [u8], to: ViewPlan) -> View
     requires { ⌜ AllOnScreen (planEffect to .edits) × (length (now screen) ≡ 1920) ⌝ }
     ensures { λ r. ⌜ Drew (planEffect to) r (now (screen .entry)) (now (screen .exit)) ⌝ }
 {

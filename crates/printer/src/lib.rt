@@ -41,7 +41,8 @@ pub fn print_spaces(screen: &mut [u8], v: View, byte: u8, count: u8) -> View
     at
 }
 
-// Prints codes of bytes, from place from on, while they are printing codes and stay left of the right edge: they are stored in one go, and the cursor is left for the caller to move. Returns their number, 0 where the cursor does not advance.
+// Prints codes of bytes, from place from on, while they are printing codes and stay left of the right edge: they are stored in one go.
+// The cursor is left for the caller to move. Returns how many they are, 0 where the cursor does not advance.
 fn print_run(screen: &mut [u8], table: &[u8; 768], v: View, bytes: &[u8], from: usize) -> usize
     requires { ⌜ Placed v × Agrees (now table) × (from ≤ length (now bytes)) × (length (now screen) ≡ 1920) ⌝ }
     ensures { λ n. ⌜ (v .column + n ≤ v .viewport .right) × (from + n ≤ length (now (bytes .entry))) × Printed v (take n (drop from (now (bytes .entry)))) (cursorAt v (v .column + n) (v .line)) (now (screen .entry)) (now (screen .exit)) ⌝ }
@@ -71,7 +72,7 @@ pub struct PrintedCodes {
 }
 
 // Prints codes of bytes, from place from on, where a printing code stands: a run of them, or that code alone.
-// How many is a matter of speed: whatever the number, they do what they do one after another.
+// How many is a matter of speed alone: what is left is what printing them one after another leaves.
 pub fn print_codes(
     screen: &mut [u8],
     table: &[u8; 768],

@@ -1,12 +1,11 @@
 -- The laws of `RunStored`: how a run of codes starts, and grows by one at its end. Assumes nothing.
 use Prim.Native.Nat.{ℕ, _+_, _*_, _≤_, _<_}
-use mathlib.Core.Path.{_≡_, refl, sym, ap, _∙_}
+use mathlib.Core.Path.{_≡_, refl, sym, _∙_}
 use mathlib.Core.List.{List, [], _∷_, _++_}
 use native.Mathlib.Nat.{add-zero}
-use native.Mathlib.Numerals.{add-one}
 use native.Mathlib.Omega.{arith}
-use lib.ListN.{length, getD, take, drop, set, length-drop}
-use lib.Seq.{length-take-le, take-suc, getD-drop}
+use lib.ListN.{length, getD, take, drop, set}
+use Rattle.laws.proofs.Lists.{one-taken, taken-length}
 use Rattle.rectangle.specs.declared.Motion.the-variants.{Clear}
 use Rattle.rectangle.specs.Rectangles.{cellAt}
 use Rattle.rectangle.specs.Edit.{edited}
@@ -14,18 +13,6 @@ use Rattle.charset.specs.declared.Mode.{Mode}
 use Rattle.charset.specs.Stored.{storedByte}
 use Rattle.screen.specs.Run.{AllPrinting, storedRun, RunStored}
 use Rattle.screen.proofs.Stores.{stores-cell}
-
--- one code more of the bytes, at the end
-one-taken : (bytes : List ℕ) (from n : ℕ) → from + n < length bytes
-    → take (n + 1) (drop from bytes) ≡ take n (drop from bytes) ++ (getD bytes (from + n) 0 ∷ [])
-one-taken bytes from n h =
-    let inside : n < length (drop from bytes) = simp length-drop (omega arith) in rw (add-one, take-suc (drop from bytes) n 0, getD-drop)
-
-pub alone-taken : (bytes : List ℕ) (from : ℕ) → from < length bytes → take 1 (drop from bytes) ≡ getD bytes from 0 ∷ []
-alone-taken bytes from h = one-taken bytes from 0 (omega arith) ∙ ap (λ (n : ℕ). getD bytes n 0 ∷ []) (add-zero from)
-
-pub taken-length : (bytes : List ℕ) (from n : ℕ) → from + n ≤ length bytes → length (take n (drop from bytes)) ≡ n
-taken-length bytes from n h = length-take-le n (drop from bytes) (simp length-drop (omega arith))
 
 printing-append : (cs : List ℕ) (c : ℕ) → AllPrinting cs → 32 ≤ c → AllPrinting (cs ++ (c ∷ []))
 printing-append [] c all h = (h, tt)

@@ -93,11 +93,11 @@ fn store_codes(
     screen: &mut [u8],
     column: usize,
     line: usize,
+    room: usize,
     table: &[u8; 768],
     mode: Mode,
     bytes: &[u8],
     from: usize,
-    room: usize,
 ) -> usize
     requires { ⌜ (column + room ≤ 80) × (line ≤ 23) × (length (now screen) ≡ 1920) × (from + room ≤ length (now bytes)) × Agrees (now table) ⌝ }
     ensures { λ n. ⌜ RunStored mode column line room (now (bytes .entry)) from n (now (screen .entry)) (now (screen .exit)) ⌝ }
@@ -128,16 +128,8 @@ pub fn store_run(
     requires { ⌜ (column + room ≤ 80) × (line ≤ 23) × (length (now screen) ≡ 1920) × (from ≤ length (now bytes)) × Agrees (now table) ⌝ }
     ensures { λ n. ⌜ RunStored mode column line room (now (bytes .entry)) from n (now (screen .entry)) (now (screen .exit)) ⌝ }
 {
-    store_codes(
-        screen,
-        column,
-        line,
-        table,
-        mode,
-        bytes,
-        from,
-        least(room, bytes.len() - from),
-    )
+    let room_left = least(room, bytes.len() - from);
+    store_codes(screen, column, line, room_left, table, mode, bytes, from)
 }
 
 // Cells of a line, count of them from column on, as a part of the lent screen itself.

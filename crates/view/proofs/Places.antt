@@ -24,21 +24,20 @@ pub clamped : (low high n m : ℕ) → low ≤ high → m ≡ min n (high - low)
 clamped low high n m h p = omega arith
 
 -- a cursor that is placed by a number is placed as the definition says: where the parameter is ignored, the view is as it was
+chosen-place : (v : View) (at : ℕ → View) (own other : ℕ) (t : Bool) → at own ≡ v → at (cond t own other) ≡ cond t v (at other)
+chosen-place v at own other true same = same
+chosen-place v at own other false same = refl
+
 pub line-placed : {u : View} (v : View) (b y : ℕ) → u ≡ cursorAt v (v .column) y → y ≡ offsetFrom (v .viewport .top) (v .viewport .bottom) (v .line) b → u ≡ setVertical v b
 unfolding setVertical offsetFrom
-line-placed v b y e p = e ∙ ap (cursorAt v (v .column)) p ∙ chosen (ltb b 32)
-  where
-    chosen : (t : Bool) → cursorAt v (v .column) (cond t (v .line) (min (v .viewport .top + (b - 32)) (v .viewport .bottom))) ≡ cond t v (cursorAt v (v .column) (min (v .viewport .top + (b - 32)) (v .viewport .bottom)))
-    chosen true = refl
-    chosen false = refl
+line-placed v b y e p =
+    e ∙ ap (cursorAt v (v .column)) p ∙ chosen-place v (cursorAt v (v .column)) (v .line) (min (v .viewport .top + (b - 32)) (v .viewport .bottom)) (ltb b 32) refl
 
 pub column-placed : {u : View} (v : View) (b x : ℕ) → u ≡ cursorAt v x (v .line) → x ≡ offsetFrom (v .viewport .left) (v .viewport .right) (v .column) b → u ≡ setHorizontal v b
 unfolding setHorizontal offsetFrom
-column-placed v b x e p = e ∙ ap (λ (n : ℕ). cursorAt v n (v .line)) p ∙ chosen (ltb b 32)
-  where
-    chosen : (t : Bool) → cursorAt v (cond t (v .column) (min (v .viewport .left + (b - 32)) (v .viewport .right))) (v .line) ≡ cond t v (cursorAt v (min (v .viewport .left + (b - 32)) (v .viewport .right)) (v .line))
-    chosen true = refl
-    chosen false = refl
+column-placed v b x e p =
+    let at : ℕ → View = λ n. cursorAt v n (v .line) in
+    e ∙ ap at p ∙ chosen-place v at (v .column) (min (v .viewport .left + (b - 32)) (v .viewport .right)) (ltb b 32) refl
 
 -- $02: 32 can be taken from a parameter that is in range
 pub offset-fits : (n : ℕ) (t : Bool) → t ≡ inOffsetRange n → t ≡ true → 32 ≤ n

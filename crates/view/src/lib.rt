@@ -8,12 +8,13 @@ use charset::Mode;
 use port::Flags;
 use port::View;
 use port::state::with_flags;
+use port::state::with_modes;
 use rectangle::Edit;
 use rectangle::Motion;
 ghost use mathlib.Core.Path.{_≡_};
 ghost use Prim.Native.Nat.{min};
 ghost use Rattle.port.specs.Effect.{fillByte, moveEdit};
-ghost use Rattle.port.specs.Codes.{modeOf, setCursorMovement, scrollDown, scrollUp};
+ghost use Rattle.port.specs.Codes.{modeOf, setNormal, setInverse, enableMouseText, disableMouseText, setCursorMovement, scrollDown, scrollUp};
 ghost use Rattle.view.specs.Plan.{effectOf, stillOf, onceOf};
 ghost use Rattle.view.specs.Place.{spaceCount};
 
@@ -101,6 +102,34 @@ pub fn mode_of(v: View) -> Mode
         return Mode::Inverse;
     }
     Mode::Normal
+}
+
+// $0E.
+pub fn set_normal(v: View) -> View
+    ensures { λ r. ⌜ r ≡ setNormal v ⌝ }
+{
+    with_modes(v, false, v.mousetext)
+}
+
+// $0F.
+pub fn set_inverse(v: View) -> View
+    ensures { λ r. ⌜ r ≡ setInverse v ⌝ }
+{
+    with_modes(v, true, v.mousetext)
+}
+
+// $1B.
+pub fn enable_mousetext(v: View) -> View
+    ensures { λ r. ⌜ r ≡ enableMouseText v ⌝ }
+{
+    with_modes(v, v.inverse, true)
+}
+
+// $18.
+pub fn disable_mousetext(v: View) -> View
+    ensures { λ r. ⌜ r ≡ disableMouseText v ⌝ }
+{
+    with_modes(v, v.inverse, false)
 }
 
 // $10: how many spaces are printed.

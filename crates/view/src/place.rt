@@ -29,7 +29,7 @@ pub fn horizontal_scroll(v: View, b: u8) -> Moved
     once(v, move_cells(v, Motion::Left(255 - b + 1)))
 }
 
-// The line or column from low to high that a parameter names: + 32, and past the last the last. Below 32 it names none, and the cursor's own stays.
+// A parameter names a line or column by its distance from low, + 32; past the last it is the last. Below 32 it names none, and the cursor's own stays.
 // A number and not a view, so that a view is changed in one place only.
 fn offset_from(low: u8, high: u8, own: u8, b: u8) -> u8
     requires { ⌜ low ≤ high ⌝ }
@@ -103,9 +103,10 @@ pub fn set_port_size(home: Rect, v: View, left: u8, top: u8, right: u8, bottom: 
             right: nearest(home.left, home.right, right),
             bottom: nearest(home.top, home.bottom, bottom),
         };
-        return resize(v, rect);
+        resize(v, rect)
+    } else {
+        v
     }
-    v
 }
 
 // $1E: $14 and then $06.

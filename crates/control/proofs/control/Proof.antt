@@ -1,7 +1,7 @@
 -- `control::control` meets its contract: an arm for each code, where the definition computes; each edits inside the viewport. In the last one the code is $1F, since it is none of the others. Assumes nothing.
 use borrow.Author.Needs.{needs}
 use Rattle.port.specs.Step.{control}
-use Rattle.control.proofs.Arms.{moved-on-screen, both-on-screen, keeps, arms, at-code, last-code}
+use Rattle.control.proofs.Arms.{moved-on-screen, planned-on-screen, keeps, arms, at-code, last-code}
 use Rattle.control.proofs.control.Statement.{statement}
 use Rattle.control.proofs.control.Tie as tie
 
@@ -35,8 +35,8 @@ moved-requires-3 c κs = search (moved-on-screen, keeps, needs)
 clear-to-port-end-requires : tie.Need-clear-to-port-end-requires
 clear-to-port-end-requires c κs = search needs
 
-moved-twice-requires : tie.Need-moved-twice-requires
-moved-twice-requires c κs = search (both-on-screen, keeps, needs)
+planned-requires : tie.Need-planned-requires
+planned-requires c κs = search (planned-on-screen, keeps, needs)
 
 clear-port-and-home-requires : tie.Need-clear-port-and-home-requires
 clear-port-and-home-requires c κs = search needs
@@ -50,14 +50,14 @@ carriage-return-requires c κs = search needs
 moved-requires-5 : tie.Need-moved-requires-5
 moved-requires-5 c κs = search (moved-on-screen, keeps, needs)
 
-with-modes-requires : tie.Need-with-modes-requires
-with-modes-requires c κs = search needs
+set-normal-requires : tie.Need-set-normal-requires
+set-normal-requires c κs = search needs
 
 with-view-requires : tie.Need-with-view-requires
 with-view-requires c κs = search needs
 
-with-modes-requires-2 : tie.Need-with-modes-requires-2
-with-modes-requires-2 c κs = search needs
+set-inverse-requires : tie.Need-set-inverse-requires
+set-inverse-requires c κs = search needs
 
 with-view-requires-2 : tie.Need-with-view-requires-2
 with-view-requires-2 c κs = search needs
@@ -68,8 +68,8 @@ wait-for-requires-4 c κs = search needs
 clear-from-port-start-requires : tie.Need-clear-from-port-start-requires
 clear-from-port-start-requires c κs = search needs
 
-moved-twice-requires-2 : tie.Need-moved-twice-requires-2
-moved-twice-requires-2 c κs = search (both-on-screen, keeps, needs)
+planned-requires-2 : tie.Need-planned-requires-2
+planned-requires-2 c κs = search (planned-on-screen, keeps, needs)
 
 wait-for-requires-5 : tie.Need-wait-for-requires-5
 wait-for-requires-5 c κs = search needs
@@ -89,8 +89,8 @@ scroll-up-requires c κs = search needs
 moved-requires-7 : tie.Need-moved-requires-7
 moved-requires-7 c κs = search (moved-on-screen, keeps, needs)
 
-with-modes-requires-3 : tie.Need-with-modes-requires-3
-with-modes-requires-3 c κs = search needs
+disable-mousetext-requires : tie.Need-disable-mousetext-requires
+disable-mousetext-requires c κs = search needs
 
 with-view-requires-3 : tie.Need-with-view-requires-3
 with-view-requires-3 c κs = search needs
@@ -107,8 +107,8 @@ clear-line-requires c κs = search needs
 moved-requires-8 : tie.Need-moved-requires-8
 moved-requires-8 c κs = search (moved-on-screen, keeps, needs)
 
-with-modes-requires-4 : tie.Need-with-modes-requires-4
-with-modes-requires-4 c κs = search needs
+enable-mousetext-requires : tie.Need-enable-mousetext-requires
+enable-mousetext-requires c κs = search needs
 
 with-view-requires-5 : tie.Need-with-view-requires-5
 with-view-requires-5 c κs = search needs
@@ -310,31 +310,31 @@ control-spec =
     line-feed-requires
     moved-requires-3
     clear-to-port-end-requires
-    moved-twice-requires
+    planned-requires
     clear-port-and-home-requires
     moved-requires-4
     carriage-return-requires
     moved-requires-5
-    with-modes-requires
+    set-normal-requires
     with-view-requires
-    with-modes-requires-2
+    set-inverse-requires
     with-view-requires-2
     wait-for-requires-4
     clear-from-port-start-requires
-    moved-twice-requires-2
+    planned-requires-2
     wait-for-requires-5
     wait-for-requires-6
     scroll-down-requires
     moved-requires-6
     scroll-up-requires
     moved-requires-7
-    with-modes-requires-3
+    disable-mousetext-requires
     with-view-requires-3
     home-cursor-requires
     with-view-requires-4
     clear-line-requires
     moved-requires-8
-    with-modes-requires-4
+    enable-mousetext-requires
     with-view-requires-5
     move-cursor-right-requires
     moved-requires-9

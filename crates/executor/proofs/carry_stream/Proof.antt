@@ -7,7 +7,7 @@ use borrow.Author.Needs.{needs}
 use Rattle.charset.specs.Stored.{Agrees}
 use Rattle.port.specs.declared.Port.{Port}
 use Rattle.control.specs.Active.{withActive}
-use Rattle.executor.proofs.Carrying.{Streaming, streaming-starts, streaming-ends, after-printing, after-saving, after-control, same-size, is-printed, is-saved, is-controlled, at-most-one, saving-keeps-home, joined-again, placed-view, few-gathered, some-wanted}
+use Rattle.executor.proofs.Carrying.{Streaming, streaming-starts, streaming-ends, after-printing, after-saving, after-control, same-size, is-printed, is-saved, is-controlled, at-most-one, saving-keeps-home, joined-again, placed-view, is-ready}
 use Rattle.executor.proofs.carry_stream.Statement.{statement}
 use Rattle.executor.proofs.carry_stream.Tie as tie
 
@@ -62,20 +62,24 @@ loop-again c =
     let at = c .before .before .before .before .before .before .before .before .before .before .before .loop in
     let b = getD (c .before .before .before .before .before .before .before .before .before .before .before .before .before .before .before .before .before .args .bytes .now) (at .i) 0 in
     let done = c .before .before .before .before .print-codes .ensures in
-    let printed = is-printed (at .active .waiting) b _ (c .before .before .before .before .before .before .before .before .prints .ensures) (c .before .before .before .before .before .before .before .if1 .taken) in
-    (after-printing (at .port) (at .active) (at .inv .0) _ _ _ (done .2) (done .1) (printed .0) (c .before .with-view .ensures), at .inv .1, at .inv .2)
+    let printed = is-printed (at .active .waiting) b _ (c .before .before .before .before .before .before .before .before .prints .ensures) (c .before .before .before .before .before .before .before .if1 .taken) in (
+      after-printing (at .port) (at .active) (at .inv .0) _ _ _ (done .2) (done .1) (printed .0)
+          (c .before .with-view .ensures),
+      at .inv .1,
+      at .inv .2,
+    )
 
-saves-requires : tie.Need-saves-requires Inv-loop μ-loop
-saves-requires c κs = search needs
+touches-saved-requires : tie.Need-touches-saved-requires Inv-loop μ-loop
+touches-saved-requires c κs = search needs
 
 with-active-requires : tie.Need-with-active-requires Inv-loop μ-loop
 with-active-requires c κs = search needs
 
-obey-saving-requires : tie.Need-obey-saving-requires Inv-loop μ-loop
-obey-saving-requires c κs =
+obey-on-saved-requires : tie.Need-obey-on-saved-requires Inv-loop μ-loop
+obey-on-saved-requires c κs =
     let at = c .before .before .before .before .before .before .before .loop in
     let b = getD (c .before .before .before .before .before .before .before .before .before .before .before .before .before .args .bytes .now) (at .i) 0 in
-    is-saved (at .active .waiting) b _ (c .before .before .saves .ensures) (c .before .if2 .taken) .1
+    is-saved (at .active .waiting) b _ (c .before .before .touches-saved .ensures) (c .before .if2 .taken) .1
 
 active-of-requires-2 : tie.Need-active-of-requires-2 Inv-loop μ-loop
 active-of-requires-2 c κs = search needs
@@ -95,9 +99,9 @@ loop-again-2 : tie.Need-loop-again-2 Inv-loop μ-loop
 loop-again-2 c =
     let at = c .before .before .before .before .before .before .before .before .before .loop in
     let b = getD (c .before .before .before .before .before .before .before .before .before .before .before .before .before .before .before .args .bytes .now) (at .i) 0 in
-    let saved = is-saved (at .active .waiting) b _ (c .before .before .before .before .saves .ensures) (c .before .before .before .if2 .taken) in
+    let saved = is-saved (at .active .waiting) b _ (c .before .before .before .before .touches-saved .ensures) (c .before .before .before .if2 .taken) in
     let joined = c .before .before .with-active .ensures in
-    let obeyed = c .before .obey-saving .ensures in
+    let obeyed = c .before .obey-on-saved .ensures in
     (after-saving (at .port) (at .active) (at .inv .0) _ joined obeyed (c .active-of2 .ensures) (c .before .before .before .before .before .before .before .before .loop-test .taken) (saved .0) (saved .1), at .inv .1, saving-keeps-home _ _ b obeyed (saved .1) ∙ ap (λ (x : Port). x .home) joined ∙ at .inv .2)
 
 bells-of-requires : tie.Need-bells-of-requires Inv-loop μ-loop
@@ -116,8 +120,8 @@ step-requires : tie.Need-step-requires Inv-loop μ-loop
 step-requires c κs =
     let at = c .before .before .before .before .before .before .before .before .before .loop in
     let b = getD (c .before .before .before .before .before .before .before .before .before .before .before .before .before .before .before .args .bytes .now) (at .i) 0 in
-    let port = withActive (at .port) (at .active) in
-    (placed-view port (at .inv .0 .valid), few-gathered port (at .inv .0 .valid), at .inv .1, at .inv .0 .long, is-controlled (at .active .waiting) b _ _ (c .before .before .before .before .before .before .prints .ensures) (c .before .before .before .before .before .if1 .left) (c .before .before .before .before .saves .ensures) (c .before .before .before .if2 .left), some-wanted port (at .inv .0 .valid))
+    let code = is-controlled (at .active .waiting) b _ _ (c .before .before .before .before .before .before .prints .ensures) (c .before .before .before .before .before .if1 .left) (c .before .before .before .before .touches-saved .ensures) (c .before .before .before .if2 .left) in
+    (is-ready (at .port) (at .active) b (at .inv .0 .valid) code, at .inv .1, at .inv .0 .long)
 
 add-i-3 : tie.Need-add-i-3 Inv-loop μ-loop
 add-i-3 c =
@@ -162,9 +166,9 @@ carry-stream-spec =
     add-i
     loop-less
     loop-again
-    saves-requires
+    touches-saved-requires
     with-active-requires
-    obey-saving-requires
+    obey-on-saved-requires
     active-of-requires-2
     add-i-2
     loop-less-2

@@ -10,10 +10,10 @@ use Rattle.screen.proofs.store_codes.Statement.{statement}
 use Rattle.screen.proofs.store_codes.Tie as tie
 
 abbrev Inv-loop : tie.InvT-loop
-Inv-loop screen₀ column line table mode bytes from room n₀ screen n = (length screen ≡ 1920) × RunStored mode column line room bytes from n screen₀ screen
+Inv-loop screen₀ column line room table mode bytes from n₀ screen n = (length screen ≡ 1920) × RunStored mode column line room bytes from n screen₀ screen
 
 abbrev μ-loop : tie.MeasureT-loop
-μ-loop screen₀ column line table mode bytes from room n₀ screen n = room - n
+μ-loop screen₀ column line room table mode bytes from n₀ screen n = room - n
 
 loop-holds : tie.Need-loop-holds Inv-loop μ-loop
 loop-holds c = (search needs, none-stored _ _ _ _ _ _ _ (omega arith))

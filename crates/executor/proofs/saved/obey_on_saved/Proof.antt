@@ -1,9 +1,9 @@
--- `executor::saved::obey_saving` meets its contract: $01, or else $04. Assumes nothing.
+-- `executor::saved::obey_on_saved` meets its contract: $01, or else $04. Assumes nothing.
 use borrow.Author.Needs.{needs}
 use Rattle.port.specs.Step.{control}
 use Rattle.executor.proofs.Carrying.{saves-as, other-saves}
-use Rattle.executor.proofs.saved.obey_saving.Statement.{statement}
-use Rattle.executor.proofs.saved.obey_saving.Tie as tie
+use Rattle.executor.proofs.saved.obey_on_saved.Statement.{statement}
+use Rattle.executor.proofs.saved.obey_on_saved.Tie as tie
 
 push-and-reset-requires : tie.Need-push-and-reset-requires
 push-and-reset-requires c κs = search needs
@@ -19,5 +19,5 @@ returns-2 : tie.Need-returns-2
 unfolding control
 returns-2 c = let last = other-saves (c .before .before .args .code) (c .before .before .pre) (c .before .if1 .left) in search saves-as
 
-pub obey-saving-spec : {M : Type 1} → statement M
-obey-saving-spec = tie.close (tie.spec push-and-reset-requires returns pop-requires returns-2)
+pub obey-on-saved-spec : {M : Type 1} → statement M
+obey-on-saved-spec = tie.close (tie.spec push-and-reset-requires returns pop-requires returns-2)

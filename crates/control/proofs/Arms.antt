@@ -16,7 +16,7 @@ use Rattle.port.specs.State as state
 use Rattle.port.specs.Step as port
 use Rattle.port.specs.Keeps.{KeepsView}
 use Rattle.port.proofs.Prints.{step-controls}
-use Rattle.port.proofs.Views.{keeps-right, keeps-line-start, keeps-line-end, keeps-clear-line, keeps-clear-port, keeps-port-start, keeps-port-end, keeps-horizontal-scroll, keeps-backspace, keeps-line-feed, keeps-return, keeps-moves, keeps-up, keeps-spaces}
+use Rattle.port.proofs.Views.{keeps-spaces}
 use Rattle.view.specs.declared.Moved.{Moved}
 use Rattle.view.specs.declared.ViewPlan.{ViewPlan}
 use Rattle.view.specs.Plan.{effectOf, planEffect}
@@ -96,9 +96,6 @@ in-view a is same = is ∙ ap (withView a) same
 pub active-joined : (p : Port) (a : Active) {q r : Port} → q ≡ state.withView p (a .view) → r ≡ state.withWait q (a .waiting) (a .gathered) (a .count) → r ≡ withActive p a
 active-joined p a first second = second ∙ ap (λ (x : Port). state.withWait x (a .waiting) (a .gathered) (a .count)) first
 
--- what each code keeps, so that it edits inside the viewport
-pub ruleset keeps = (keeps-line-start, keeps-line-end, keeps-clear-line, keeps-clear-port, keeps-port-start, keeps-port-end, keeps-horizontal-scroll, keeps-backspace, keeps-line-feed, keeps-return, keeps-moves, keeps-right, keeps-up)
-
 -- none of the codes from low on, n of them: what the last arm of a `match` knows
 abbrev pub NoneFrom : Type 0 → ℕ → ℕ → ℕ → Type 0
 NoneFrom before low zero code = before
@@ -158,5 +155,3 @@ module _ (p : Port) (b : ℕ) {x : Port} {s t : List ℕ} where
   is-parameter some h = simp (lt-ltb 0 (parameters (p .waiting)) some) h
 
 pub ruleset commands = (at-command, performed-view, performed-effect, performed-size, performed-spaces)
-
-pub ruleset arms = (at-code, obeyed-idle, obeyed-wait, obeyed-view, obeyed-effect)

@@ -12,6 +12,7 @@ use lib.Seq.{drop-drop, drop-length}
 use borrow.Author.Tests.{eqb-true, eqb-false, eq-eqb, ne-eqb, leb-true, leb-false, lt-ltb}
 use Rattle.laws.proofs.Tests.{by-test, and-left, and-right}
 use Rattle.laws.proofs.Lists.{alone-taken}
+use Rattle.rectangle.specs.declared.Rect.{Rect}
 use Rattle.rectangle.specs.Edit.{draw}
 use Rattle.charset.specs.Stored.{storedByte}
 use Rattle.port.specs.declared.View.{View}
@@ -66,6 +67,9 @@ is-printed waiting b test is t =
     let both = sym is ∙ t in
     (eqb-true waiting 0 (and-left (eqb waiting 0) (leb 32 b) both), leb-true 32 b (and-right (eqb waiting 0) (leb 32 b) both))
 
+pub printed-waits : (waiting b : ℕ) (test : Bool) → test ≡ (eqb waiting 0 && leb 32 b) → test ≡ true → waiting ≡ 0
+printed-waits waiting b test is t = is-printed waiting b test is t .0
+
 is-either : (b : ℕ) → (eqb b 1 || eqb b 4) ≡ true → (b ≡ 1) ⊎ (b ≡ 4)
 is-either b t = by (eqb b 1) (eqb b 4) (eqb-true b 1) (eqb-true b 4) t
   where
@@ -73,10 +77,12 @@ is-either b t = by (eqb b 1) (eqb b 4) (eqb-true b 1) (eqb-true b 4) t
     by true y one four e = inl (one refl)
     by false y one four e = inr (four e)
 
-pub is-saved : (waiting b : ℕ) (test : Bool) → test ≡ (eqb waiting 0 && (eqb b 1 || eqb b 4)) → test ≡ true → (waiting ≡ 0) × ((b ≡ 1) ⊎ (b ≡ 4))
-is-saved waiting b test is t =
-    let both = sym is ∙ t in
-    (eqb-true waiting 0 (and-left (eqb waiting 0) (eqb b 1 || eqb b 4) both), is-either b (and-right (eqb waiting 0) (eqb b 1 || eqb b 4) both))
+module _ (waiting b : ℕ) (test : Bool) (is : test ≡ (eqb waiting 0 && (eqb b 1 || eqb b 4))) (t : test ≡ true) where
+  pub saved-waits : waiting ≡ 0
+  saved-waits = eqb-true waiting 0 (and-left (eqb waiting 0) (eqb b 1 || eqb b 4) (sym is ∙ t))
+
+  pub is-saved : (b ≡ 1) ⊎ (b ≡ 4)
+  is-saved = is-either b (and-right (eqb waiting 0) (eqb b 1 || eqb b 4) (sym is ∙ t))
 
 neither : (b : ℕ) → (eqb b 1 || eqb b 4) ≡ false → (b ≡ 1 → ⊥) × (b ≡ 4 → ⊥)
 neither b t = by (eqb b 1) (eqb b 4) (eqb-false b 1) (eqb-false b 4) t
@@ -126,7 +132,7 @@ other-saves code either other = ⊎-elim (λ e. absurd (other e)) (λ e. e) eith
 pub saves-as : {r q : Port} (p : Port) (code k : ℕ) → code ≡ k → r ≡ q → becomesPort q ≡ control p k → becomesPort r ≡ control p code
 saves-as p code k e same h = ap becomesPort same ∙ h ∙ ap (control p) (sym e)
 
-pub saving-keeps-home : (p next : Port) (code : ℕ) → becomesPort next ≡ control p code → (code ≡ 1) ⊎ (code ≡ 4) → next .home ≡ p .home
+saving-keeps-home : (p next : Port) (code : ℕ) → becomesPort next ≡ control p code → (code ≡ 1) ⊎ (code ≡ 4) → next .home ≡ p .home
 unfolding control pop
 saving-keeps-home p next code saves either =
     ⊎-elim (λ e. ap (λ (m : Outcome). m .port .home) (saves ∙ ap (control p) e)) (λ e. ap (λ (m : Outcome). m .port .home) (saves ∙ ap (control p) e)) either
@@ -139,6 +145,9 @@ pub single-printed : (p : Port) (b byte : ℕ) (test : Bool) {q : Port} {w : Vie
 single-printed p b byte test {q} {w} {s} {t} is yes′ stored drew to =
     let printed = is-printed (p .waiting) b test is yes′ in
     subst (λ (x : Port). Carried (stream p (b ∷ [])) x 0 s t) (sym to) (single-carried p (withView p w) b 0 s t (code-carried p b byte (printed .0) (printed .1) stored w s t drew))
+
+pub saved-home : (p : Port) (a : Active) (q : Port) {next : Port} {home : Rect} (code : ℕ) → q ≡ withActive p a → becomesPort next ≡ control q code → (code ≡ 1) ⊎ (code ≡ 4) → p .home ≡ home → next .home ≡ home
+saved-home p a q {next} code joined saves either at = saving-keeps-home q next code saves either ∙ ap (λ (x : Port). x .home) joined ∙ at
 
 -- ---- the loop: what is left of the stream, done from here, is what was asked
 pub record Streaming (p₀ : Port) (bs s₀ : List ℕ) (i : ℕ) (p : Port) (rung : ℕ) (s : List ℕ) : Type 0 where

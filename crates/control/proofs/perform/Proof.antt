@@ -1,9 +1,10 @@
 -- `control::perform` meets its contract: an arm for each command that takes parameters; the last one is the only one left. Assumes nothing.
 use borrow.Author.Needs.{needs}
 use Rattle.port.specs.Step.{perform}
+use Rattle.port.proofs.Views.{keeps-horizontal-scroll}
 use Rattle.printer.proofs.Printing.{stored-as}
 use Rattle.control.specs.Active.{withActive}
-use Rattle.control.proofs.Arms.{moved-on-screen, spaces-on-screen, keeps, commands, last-command}
+use Rattle.control.proofs.Arms.{moved-on-screen, spaces-on-screen, commands, last-command}
 use Rattle.control.proofs.perform.Statement.{statement}
 use Rattle.control.proofs.perform.Tie as tie
 
@@ -29,7 +30,7 @@ horizontal-scroll-requires : tie.Need-horizontal-scroll-requires
 horizontal-scroll-requires c κs = search needs
 
 moved-requires : tie.Need-moved-requires
-moved-requires c κs = search (moved-on-screen, keeps, needs)
+moved-requires c κs = search (moved-on-screen, keeps-horizontal-scroll, needs)
 
 set-vertical-requires : tie.Need-set-vertical-requires
 set-vertical-requires c κs = search needs

@@ -1,13 +1,12 @@
 -- `executor::carry_stream` meets its contract: the loop keeps that what is left of the stream, done from here, is what was asked; bells so far are at most the bytes so far. Assumes nothing.
 use Prim.Native.Nat.{_-_}
-use mathlib.Core.Path.{_≡_, ap, _∙_}
+use mathlib.Core.Path.{_≡_}
 use native.Mathlib.Omega.{arith}
 use lib.ListN.{length, getD}
 use borrow.Author.Needs.{needs}
 use Rattle.charset.specs.Stored.{Agrees}
-use Rattle.port.specs.declared.Port.{Port}
 use Rattle.control.specs.Active.{withActive}
-use Rattle.executor.proofs.Carrying.{Streaming, streaming-starts, streaming-ends, after-printing, after-saving, after-control, same-size, is-printed, is-saved, is-controlled, at-most-one, saving-keeps-home, joined-again, placed-view, is-ready}
+use Rattle.executor.proofs.Carrying.{Streaming, streaming-starts, streaming-ends, after-printing, after-saving, after-control, same-size, is-printed, printed-waits, is-saved, saved-waits, saved-home, is-controlled, at-most-one, joined-again, placed-view, is-ready}
 use Rattle.executor.proofs.carry_stream.Statement.{statement}
 use Rattle.executor.proofs.carry_stream.Tie as tie
 
@@ -24,13 +23,10 @@ active-of-requires : tie.Need-active-of-requires Inv-loop μ-loop
 active-of-requires c κs = search needs
 
 loop-holds : tie.Need-loop-holds Inv-loop μ-loop
-loop-holds c =
-    search (streaming-starts, needs)
+loop-holds c = search (streaming-starts, needs)
 
 shared-slice-read-b : tie.Need-shared-slice-read-b Inv-loop μ-loop
-shared-slice-read-b c =
-    let more = c .before .loop-test .taken in
-    omega arith
+shared-slice-read-b c = search needs
 
 prints-requires : tie.Need-prints-requires Inv-loop μ-loop
 prints-requires c κs = search needs
@@ -46,24 +42,18 @@ with-view-requires : tie.Need-with-view-requires Inv-loop μ-loop
 with-view-requires c κs = search needs
 
 add-i : tie.Need-add-i Inv-loop μ-loop
-add-i c =
-    let inside = c .before .before .before .before .print-codes .ensures .1 in
-    let fits = c .before .before .before .before .before .before .before .before .before .before .before .before .before .before .before .before .before .good .1 .1 in
-    omega arith
+add-i c = let fits = c .before .before .before .before .before .before .before .before .before .before .before .before .before .before .before .before .before .good .1 .1 in search needs
 
 loop-less : tie.Need-loop-less Inv-loop μ-loop
-loop-less c =
-    let some = c .before .before .before .before .print-codes .ensures .0 in
-    let inside = c .before .before .before .before .print-codes .ensures .1 in
-    omega arith
+loop-less c = search needs
 
 loop-again : tie.Need-loop-again Inv-loop μ-loop
 loop-again c =
     let at = c .before .before .before .before .before .before .before .before .before .before .before .loop in
     let b = getD (c .before .before .before .before .before .before .before .before .before .before .before .before .before .before .before .before .before .args .bytes .now) (at .i) 0 in
     let done = c .before .before .before .before .print-codes .ensures in
-    let printed = is-printed (at .active .waiting) b _ (c .before .before .before .before .before .before .before .before .prints .ensures) (c .before .before .before .before .before .before .before .if1 .taken) in (
-      after-printing (at .port) (at .active) (at .inv .0) _ _ _ (done .2) (done .1) (printed .0)
+    let none = printed-waits (at .active .waiting) b _ (c .before .before .before .before .before .before .before .before .prints .ensures) (c .before .before .before .before .before .before .before .if1 .taken) in (
+      after-printing (at .port) (at .active) (at .inv .0) _ _ _ (done .2) (done .1) none
           (c .before .with-view .ensures),
       at .inv .1,
       at .inv .2,
@@ -79,30 +69,26 @@ obey-on-saved-requires : tie.Need-obey-on-saved-requires Inv-loop μ-loop
 obey-on-saved-requires c κs =
     let at = c .before .before .before .before .before .before .before .loop in
     let b = getD (c .before .before .before .before .before .before .before .before .before .before .before .before .before .args .bytes .now) (at .i) 0 in
-    is-saved (at .active .waiting) b _ (c .before .before .touches-saved .ensures) (c .before .if2 .taken) .1
+    is-saved (at .active .waiting) b _ (c .before .before .touches-saved .ensures) (c .before .if2 .taken)
 
 active-of-requires-2 : tie.Need-active-of-requires-2 Inv-loop μ-loop
 active-of-requires-2 c κs = search needs
 
 add-i-2 : tie.Need-add-i-2 Inv-loop μ-loop
-add-i-2 c =
-    let more = c .before .before .before .before .before .before .before .before .loop-test .taken in
-    let fits = c .before .before .before .before .before .before .before .before .before .before .before .before .before .before .before .good .1 .1 in
-    omega arith
+add-i-2 c = let fits = c .before .before .before .before .before .before .before .before .before .before .before .before .before .before .before .good .1 .1 in search needs
 
 loop-less-2 : tie.Need-loop-less-2 Inv-loop μ-loop
-loop-less-2 c =
-    let more = c .before .before .before .before .before .before .before .before .loop-test .taken in
-    omega arith
+loop-less-2 c = search needs
 
 loop-again-2 : tie.Need-loop-again-2 Inv-loop μ-loop
 loop-again-2 c =
     let at = c .before .before .before .before .before .before .before .before .before .loop in
     let b = getD (c .before .before .before .before .before .before .before .before .before .before .before .before .before .before .before .args .bytes .now) (at .i) 0 in
+    let none = saved-waits (at .active .waiting) b _ (c .before .before .before .before .touches-saved .ensures) (c .before .before .before .if2 .taken) in
     let saved = is-saved (at .active .waiting) b _ (c .before .before .before .before .touches-saved .ensures) (c .before .before .before .if2 .taken) in
     let joined = c .before .before .with-active .ensures in
     let obeyed = c .before .obey-on-saved .ensures in
-    (after-saving (at .port) (at .active) (at .inv .0) _ joined obeyed (c .active-of2 .ensures) (c .before .before .before .before .before .before .before .before .loop-test .taken) (saved .0) (saved .1), at .inv .1, saving-keeps-home _ _ b obeyed (saved .1) ∙ ap (λ (x : Port). x .home) joined ∙ at .inv .2)
+    (after-saving (at .port) (at .active) (at .inv .0) _ joined obeyed (c .active-of2 .ensures) (c .before .before .before .before .before .before .before .before .loop-test .taken) none saved, at .inv .1, saved-home (at .port) (at .active) _ b joined obeyed saved (at .inv .2))
 
 bells-of-requires : tie.Need-bells-of-requires Inv-loop μ-loop
 bells-of-requires c κs = search needs
@@ -124,31 +110,25 @@ step-requires c κs =
     (is-ready (at .port) (at .active) b (at .inv .0 .valid) code, at .inv .1, at .inv .0 .long)
 
 add-i-3 : tie.Need-add-i-3 Inv-loop μ-loop
-add-i-3 c =
-    let more = c .before .before .before .before .before .before .before .before .before .before .before .loop-test .taken in
-    let fits = c .before .before .before .before .before .before .before .before .before .before .before .before .before .before .before .before .before .before .good .1 .1 in
-    omega arith
+add-i-3 c = let fits = c .before .before .before .before .before .before .before .before .before .before .before .before .before .before .before .before .before .before .good .1 .1 in search needs
 
 loop-less-3 : tie.Need-loop-less-3 Inv-loop μ-loop
-loop-less-3 c =
-    let more = c .before .before .before .before .before .before .before .before .before .before .before .loop-test .taken in
-    omega arith
+loop-less-3 c = search needs
 
 loop-again-3 : tie.Need-loop-again-3 Inv-loop μ-loop
 loop-again-3 c =
     let at = c .before .before .before .before .before .before .before .before .before .before .before .before .loop in
-    (after-control (at .port) (at .active) (at .inv .0) _ _ (c .before .before .step .ensures (at .port) (at .inv .2)) (c .before .before .before .before .before .bells-of .ensures) (c .before .before .before .before .before .before .before .before .before .before .before .loop-test .taken), at .inv .1, at .inv .2)
+    let obeyed = c .before .before .step .ensures (at .port) (at .inv .2) in
+    search (after-control, needs)
 
 with-active-requires-2 : tie.Need-with-active-requires-2 Inv-loop μ-loop
 with-active-requires-2 c κs = search needs
 
 same-length : tie.Need-same-length Inv-loop μ-loop
-same-length c =
-    search (same-size, needs)
+same-length c = search (same-size, needs)
 
 returns : tie.Need-returns Inv-loop μ-loop
-returns c =
-    joined-again (streaming-ends (c .before .before .loop .inv .0) (c .before .loop-test .left)) (c .with-active2 .ensures)
+returns c = search (joined-again, streaming-ends)
 
 pub carry-stream-spec : {M : Type 1} → statement M
 carry-stream-spec =

@@ -6,7 +6,7 @@ use Rattle.port.specs.declared.Port.{Port}
 use Rattle.port.specs.Step.{Outcome}
 use Rattle.port.specs.Commands.{commandCodes, occurrences, waitOf}
 use Rattle.port.proofs.Streams.{stream-cut, cells-cut}
-use Rattle.port.proofs.Bells.{stream-bells}
+use Rattle.port.proofs.Outcomes.{stream-bells}
 use Rattle.reply.specs.Laws.{SameCut}
 use Rattle.calls.specs.Calls.{written}
 

@@ -24,7 +24,7 @@ use Rattle.port.specs.Step.{Outcome, becomesPort, pop, control, step}
 use Rattle.port.specs.Stream.{stream}
 use Rattle.port.proofs.Validity.{no-parameters}
 use Rattle.port.proofs.Streams.{keeps-stream}
-use Rattle.port.proofs.Bells.{step-bells, one-bell}
+use Rattle.port.proofs.Outcomes.{step-bells, one-bell}
 use Rattle.port.proofs.Prints.{step-controls}
 use Rattle.printer.specs.Carry.{Drew, Obeyed, Carried}
 use Rattle.printer.specs.Print.{Placed, Printed}

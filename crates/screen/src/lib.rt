@@ -88,33 +88,7 @@ pub fn write_cells(
     copy_run(block, at, screen, cell_index(column, line), count);
 }
 
-// Codes from place from on are stored in cells of a line, from column on. They end at the first control code, or where there is no more room. Returns their number.
-fn store_codes(
-    screen: &mut [u8],
-    column: usize,
-    line: usize,
-    room: usize,
-    table: &[u8; 768],
-    mode: Mode,
-    bytes: &[u8],
-    from: usize,
-) -> usize
-    requires { ⌜ (column + room ≤ 80) × (line ≤ 23) × (length (now screen) ≡ 1920) × (from + room ≤ length (now bytes)) × Agrees (now table) ⌝ }
-    ensures { λ n. ⌜ RunStored mode column line room (now (bytes .entry)) from n (now (screen .entry)) (now (screen .exit)) ⌝ }
-{
-    let mut n = 0;
-    while n < room {
-        let code = bytes[from + n];
-        if code < 32 {
-            return n;
-        }
-        screen[cell_index(column + n, line)] = stored_byte(table, mode, code);
-        n += 1;
-    }
-    n
-}
-
-// A run of printing codes: the same, where the bytes may end before the room does.
+// A run of printing codes: those of bytes from place from on are stored in cells of a line, from column on. It ends at the first control code, with the bytes, or where there is no more room. Returns how many they are.
 pub fn store_run(
     screen: &mut [u8],
     column: usize,
@@ -128,8 +102,17 @@ pub fn store_run(
     requires { ⌜ (column + room ≤ 80) × (line ≤ 23) × (length (now screen) ≡ 1920) × (from ≤ length (now bytes)) × Agrees (now table) ⌝ }
     ensures { λ n. ⌜ RunStored mode column line room (now (bytes .entry)) from n (now (screen .entry)) (now (screen .exit)) ⌝ }
 {
-    let room_left = least(room, bytes.len() - from);
-    store_codes(screen, column, line, room_left, table, mode, bytes, from)
+    let most = least(room, bytes.len() - from);
+    let mut n = 0;
+    while n < most {
+        let code = bytes[from + n];
+        if code < 32 {
+            return n;
+        }
+        screen[cell_index(column + n, line)] = stored_byte(table, mode, code);
+        n += 1;
+    }
+    n
 }
 
 // Cells of a line, count of them from column on, as a part of the lent screen itself.

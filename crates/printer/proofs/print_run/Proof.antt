@@ -21,7 +21,7 @@ cast-store-run-3 : tie.Need-cast-store-run-3
 cast-store-run-3 c = search needs
 
 store-run-requires : tie.Need-store-run-requires
-store-run-requires c κs = search needs
+store-run-requires c κs = (omega arith, omega arith, search needs, search needs, search needs)
 
 same-length : tie.Need-same-length
 same-length c = search needs

@@ -1,4 +1,4 @@
--- `screen::store_codes` meets its contract. The invariant: n codes are stored. Assumes nothing.
+-- `screen::store_run` meets its contract. The invariant: n codes are stored. Assumes nothing.
 use Prim.Native.Nat.{_-_}
 use mathlib.Core.Path.{_≡_}
 use native.Mathlib.Omega.{arith}
@@ -6,14 +6,20 @@ use borrow.Author.Needs.{needs}
 use lib.ListN.{length}
 use Rattle.screen.specs.Run.{RunStored}
 use Rattle.screen.proofs.Runs.{none-stored, one-stored}
-use Rattle.screen.proofs.store_codes.Statement.{statement}
-use Rattle.screen.proofs.store_codes.Tie as tie
+use Rattle.screen.proofs.store_run.Statement.{statement}
+use Rattle.screen.proofs.store_run.Tie as tie
 
 abbrev Inv-loop : tie.InvT-loop
-Inv-loop screen₀ column line room table mode bytes from n₀ screen n = (length screen ≡ 1920) × RunStored mode column line room bytes from n screen₀ screen
+Inv-loop screen₀ column line room table mode bytes from most n₀ screen n = (length screen ≡ 1920) × RunStored mode column line room bytes from n screen₀ screen
 
 abbrev μ-loop : tie.MeasureT-loop
-μ-loop screen₀ column line room table mode bytes from n₀ screen n = room - n
+μ-loop screen₀ column line room table mode bytes from most n₀ screen n = most - n
+
+sub-least : tie.Need-sub-least Inv-loop μ-loop
+sub-least c = search needs
+
+least-requires : tie.Need-least-requires Inv-loop μ-loop
+least-requires c κs = search needs
 
 loop-holds : tie.Need-loop-holds Inv-loop μ-loop
 loop-holds c = (search needs, none-stored _ _ _ _ _ _ _ (omega arith))
@@ -59,12 +65,14 @@ same-length-2 c = search needs
 returns-2 : tie.Need-returns-2 Inv-loop μ-loop
 returns-2 c = search needs
 
-pub store-codes-spec : {M : Type 1} → statement M
-store-codes-spec =
+pub store-run-spec : {M : Type 1} → statement M
+store-run-spec =
     tie.close
     (tie.spec
     Inv-loop
     μ-loop
+    sub-least
+    least-requires
     loop-holds
     add-code
     shared-slice-read-code

@@ -1,8 +1,8 @@
 // Paper 01, 'Blocks, rows, one byte': the cells of a rectangle as a block, and one row of it.
 // A block is a width byte, a height byte, then the cells line by line.
 use rectangle::Rect;
-use rectangle::height;
-use rectangle::width;
+use rectangle::height_of;
+use rectangle::width_of;
 use screen::part_of_line;
 use screen::read_cells;
 use screen::write_cells;
@@ -18,7 +18,7 @@ pub fn block_length(rect: Rect) -> usize
     requires { ⌜ OnScreen rect ⌝ }
     ensures { λ r. ⌜ r ≡ blockLength rect ⌝ }
 {
-    2 + (width(rect) as usize) * (height(rect) as usize)
+    2 + (width_of(rect) as usize) * (height_of(rect) as usize)
 }
 
 // Whether a block's length and first two bytes are the rectangle's.
@@ -27,7 +27,7 @@ pub fn block_fits(rect: Rect, block: &[u8]) -> bool
     ensures { λ r. ⌜ r ≡ blockFits rect (now (block .entry)) ⌝ }
 {
     if block.len() == block_length(rect) {
-        return (block[0] == width(rect)) & (block[1] == height(rect));
+        return (block[0] == width_of(rect)) & (block[1] == height_of(rect));
     }
     false
 }
@@ -41,7 +41,7 @@ pub fn row_cells(screen: &[u8], rect: Rect, row: usize) -> &[u8]
         screen,
         rect.left as usize,
         rect.top as usize + row,
-        width(rect) as usize,
+        width_of(rect) as usize,
     )
 }
 
@@ -50,7 +50,7 @@ fn row_place(rect: Rect, row: usize) -> usize
     requires { ⌜ OnScreen rect × (row < heightOf rect) ⌝ }
     ensures { λ r. ⌜ r ≡ 2 + row * widthOf rect ⌝ }
 {
-    2 + row * (width(rect) as usize)
+    2 + row * (width_of(rect) as usize)
 }
 
 // The cells of the rectangle fill the front of the block; the bytes beyond stay.
@@ -58,8 +58,8 @@ pub fn copy_out(screen: &[u8], rect: Rect, block: &mut [u8])
     requires { ⌜ OnScreen rect × (length (now screen) ≡ 1920) × (blockLength rect ≤ length (now block)) ⌝ }
     ensures { λ _. ⌜ now (block .exit) ≡ blockOf rect (now (screen .entry)) ++ drop (blockLength rect) (now (block .entry)) ⌝ }
 {
-    let columns = width(rect);
-    let lines = height(rect);
+    let columns = width_of(rect);
+    let lines = height_of(rect);
     block[0] = columns;
     block[1] = lines;
     let count = columns as usize;
@@ -75,8 +75,8 @@ pub fn copy_in(screen: &mut [u8], rect: Rect, block: &[u8])
     requires { ⌜ OnScreen rect × (length (now screen) ≡ 1920) × (length (now block) ≡ blockLength rect) ⌝ }
     ensures { λ _. ⌜ now (screen .exit) ≡ restored rect (now (block .entry)) (now (screen .entry)) ⌝ }
 {
-    let count = width(rect) as usize;
-    let lines = height(rect) as usize;
+    let count = width_of(rect) as usize;
+    let lines = height_of(rect) as usize;
     let left = rect.left as usize;
     let top = rect.top as usize;
     for row in 0..lines {

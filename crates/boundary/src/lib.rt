@@ -13,14 +13,14 @@ use multiplexer::return_block;
 use multiplexer::write;
 use room::has_room;
 use script::Call;
-use script::Next;
-use script::next_call;
+use script::Parsed;
 use script::pane_of;
+use script::parse_call;
 use session::answer::put_end;
 use session::answer::put_head;
+use session::feed_bytewise;
+use session::feed_in_pieces;
 use session::fresh_session;
-use session::hand_over_all;
-use session::hand_over_bytes;
 use slots::Multiplexer;
 ghost use Prim.Native.Nat.{_+_, _≤_, _<_, min};
 ghost use mathlib.Core.Path.{_≡_};
@@ -28,7 +28,7 @@ ghost use lib.ListN.{length};
 ghost use Rattle.boundary.specs.Script.{Lies};
 
 // One call. lent is a block return's block, and arguments are the bytes of the others.
-fn serve(
+fn dispatch(
     m: Multiplexer,
     screen: &mut [u8],
     kind: u8,
@@ -45,15 +45,15 @@ fn serve(
     }
 }
 
-// The multiplexer after a call, where the next call starts, and the length of the answer: 0 where no call was made.
-struct Made {
+// The multiplexer after a call, where the next call starts, and the length of the answer: 0 where no call was served.
+struct Served {
     multiplexer: Multiplexer,
     next: usize,
     length: usize,
 }
 
 // Makes a call of the script, and puts its answer at the front of answers.
-fn make(m: Multiplexer, screen: &mut [u8], script: &[u8], call: Call, answers: &mut [u8]) -> Made
+fn serve(m: Multiplexer, screen: &mut [u8], script: &[u8], call: Call, answers: &mut [u8]) -> Served
     requires { ⌜ Lies (length (now script)) call × (5 + call .lent + length (now screen) ≤ length (now answers)) ⌝ }
     ensures { λ r. ⌜ (r .next ≡ call .end) × (r .length ≤ length (now (answers .entry))) ⌝ }
 {
@@ -63,7 +63,7 @@ fn make(m: Multiplexer, screen: &mut [u8], script: &[u8], call: Call, answers: &
     let cells = 5 + lent;
     let length = cells + screen.len();
     copy(&script[start..start + lent], &mut answers[5..cells]);
-    let answer = serve(
+    let answer = dispatch(
         m,
         screen,
         call.kind,
@@ -75,7 +75,7 @@ fn make(m: Multiplexer, screen: &mut [u8], script: &[u8], call: Call, answers: &
     put_head(answers, reply::status_number(status), answer.count as u64);
     copy(screen, &mut answers[cells..]);
     let multiplexer = answer.multiplexer;
-    Made {
+    Served {
         multiplexer,
         next: end,
         length,
@@ -83,32 +83,32 @@ fn make(m: Multiplexer, screen: &mut [u8], script: &[u8], call: Call, answers: &
 }
 
 // The call at a place of the script, where there is one and there is room for its answer.
-fn make_next(
+fn serve_next(
     m: Multiplexer,
     screen: &mut [u8],
     script: &[u8],
     at: usize,
     answers: &mut [u8],
-) -> Made
+) -> Served
     requires { ⌜ at ≤ length (now script) ⌝ }
     ensures { λ r. ⌜ (at + min 1 (r .length) ≤ r .next) × (r .next ≤ length (now (script .entry))) × (r .length ≤ length (now (answers .entry))) ⌝ }
 {
-    let next = next_call(script, at);
-    match next {
-        Next::End => none_made(m, at),
-        Next::Made(call) => {
+    let parsed = parse_call(script, at);
+    match parsed {
+        Parsed::End => not_served(m, at),
+        Parsed::Call(call) => {
             if has_room(answers.len(), call.lent, screen.len()) {
-                return make(m, screen, script, call, answers);
+                return serve(m, screen, script, call, answers);
             }
-            none_made(m, at)
+            not_served(m, at)
         }
     }
 }
 
-fn none_made(m: Multiplexer, at: usize) -> Made
+fn not_served(m: Multiplexer, at: usize) -> Served
     ensures { λ r. ⌜ (r .next ≡ at) × (r .length ≡ 0) ⌝ }
 {
-    Made {
+    Served {
         multiplexer: m,
         next: at,
         length: 0,
@@ -116,7 +116,7 @@ fn none_made(m: Multiplexer, at: usize) -> Made
 }
 
 // Runs a script in order, on a fresh multiplexer and the lent screen. The answers go to the front of answers; the result is how many bytes they are.
-// A call that is cut off or unknown ends the run, and so does one whose answer finds no room: it is not made.
+// A call that is cut off or unknown ends the run, and so does one whose answer finds no room: it is not served.
 #[no_mangle]
 pub extern "C" fn combthrift_run_script(
     script: &[u8],
@@ -127,13 +127,13 @@ pub extern "C" fn combthrift_run_script(
     let mut from = 0;
     let mut to = 0;
     loop {
-        let made = make_next(m, screen, script, from, &mut answers[to..]);
-        if made.length == 0 {
+        let served = serve_next(m, screen, script, from, &mut answers[to..]);
+        if served.length == 0 {
             return to;
         }
-        m = made.multiplexer;
-        from = made.next;
-        to += made.length;
+        m = served.multiplexer;
+        from = served.next;
+        to += served.length;
     }
 }
 
@@ -152,7 +152,7 @@ pub extern "C" fn combthrift_run_stream(
     if answer.len() < 7 {
         return 0;
     }
-    put_end(answer, hand_over_all(screen, fresh_session(), bytes, size));
+    put_end(answer, feed_in_pieces(screen, fresh_session(), bytes, size));
     7
 }
 
@@ -167,6 +167,6 @@ pub extern "C" fn combthrift_put_bytes(
     if answer.len() < 7 {
         return 0;
     }
-    put_end(answer, hand_over_bytes(screen, fresh_session(), bytes));
+    put_end(answer, feed_bytewise(screen, fresh_session(), bytes));
     7
 }

@@ -14,9 +14,9 @@ pub struct Call {
     pub lent: usize,
 }
 
-pub enum Next {
+pub enum Parsed {
     End,
-    Made(Call),
+    Call(Call),
 }
 
 // The byte at i, or 0 past the end.
@@ -37,16 +37,16 @@ pub fn pane_of(arguments: &[u8]) -> Rect {
 }
 
 // A call whose arguments, count of them, come after head bytes, unless it is cut off.
-fn with_arguments(script: &[u8], at: usize, head: usize, count: usize) -> Next
+fn with_arguments(script: &[u8], at: usize, head: usize, count: usize) -> Parsed
     requires { ⌜ (at ≤ length (now script)) × (2 ≤ head) ⌝ }
     ensures { λ r. ⌜ LiesPast (length (now (script .entry))) at r ⌝ }
 {
     if script.len() - at < head {
-        return Next::End;
+        return Parsed::End;
     }
     let start = at + head;
     if script.len() - start < count {
-        return Next::End;
+        return Parsed::End;
     }
     let kind = script[at];
     let call = Call {
@@ -56,7 +56,7 @@ fn with_arguments(script: &[u8], at: usize, head: usize, count: usize) -> Next
         end: start + count,
         lent: if kind == 3 { count } else { 0 },
     };
-    Next::Made(call)
+    Parsed::Call(call)
 }
 
 fn wide(byte: u8) -> usize
@@ -66,24 +66,24 @@ fn wide(byte: u8) -> usize
 }
 
 // The same with their count in two bytes, low byte first.
-fn with_length(script: &[u8], at: usize) -> Next
+fn with_length(script: &[u8], at: usize) -> Parsed
     requires { ⌜ at ≤ length (now script) ⌝ }
     ensures { λ r. ⌜ LiesPast (length (now (script .entry))) at r ⌝ }
 {
     if script.len() - at < 4 {
-        return Next::End;
+        return Parsed::End;
     }
     let count = wide(script[at + 2]) + 256 * wide(script[at + 3]);
     with_arguments(script, at, 4, count)
 }
 
 // The call at a place of the script. The end, a call that is cut off and an unknown kind are the end.
-pub fn next_call(script: &[u8], at: usize) -> Next
+pub fn parse_call(script: &[u8], at: usize) -> Parsed
     requires { ⌜ at ≤ length (now script) ⌝ }
     ensures { λ r. ⌜ LiesPast (length (now (script .entry))) at r ⌝ }
 {
     if script.len() == at {
-        return Next::End;
+        return Parsed::End;
     }
     let kind = script[at];
     match kind {
@@ -92,6 +92,6 @@ pub fn next_call(script: &[u8], at: usize) -> Next
         2 => with_length(script, at),
         3 => with_length(script, at),
         4 => with_length(script, at),
-        _ => Next::End,
+        _ => Parsed::End,
     }
 }

@@ -10,12 +10,12 @@ use Rattle.block.specs.Block.{blockLength, blockOf}
 use Rattle.block.proofs.Rows.{length-block, block-fits}
 use Rattle.block.proofs.Restores.{restore-returned}
 use Rattle.port.specs.declared.Port.{Port}
-use Rattle.port.specs.Valid.{Valid}
+use Rattle.port.specs.Valid.{ValidPort}
 use Rattle.port.proofs.Validity.{viewport-on-screen}
 use Rattle.reply.specs.declared.Status.the-variants.{Done}
 use Rattle.calls.specs.Calls.{PortReply, blockReturned, blockRestored}
 
-module _ (p : Port) (s block : List ℕ) (v : Valid p) (len : length s ≡ 1920) (room : blockLength (p .view .viewport) ≤ length block) where
+module _ (p : Port) (s block : List ℕ) (v : ValidPort p) (len : length s ≡ 1920) (room : blockLength (p .view .viewport) ≤ length block) where
   abbrev rect : Rect
   rect = p .view .viewport
 

@@ -13,7 +13,7 @@ use Rattle.rectangle.specs.Rectangles.{widthOf, heightOf}
 use Rattle.block.specs.Block.{blockLength, blockFits, blockOf, restored}
 use Rattle.port.specs.declared.Port.{Port}
 use Rattle.port.specs.Stream.{stream}
-use Rattle.printer.specs.Carry.{Carried}
+use Rattle.printer.specs.Execute.{Executed}
 use Rattle.reply.specs.declared.Status.the-variants.{Done, BlockTooShort, BlockMismatch}
 use Rattle.reply.specs.Reply.{Replies}
 use Rattle.calls.specs.declared.Answer.{Answer}
@@ -25,7 +25,7 @@ unfolding blockFits
 fit-length r block fits k h = eqb-true _ _ (and-left (eqb (length block) (blockLength r)) (eqb (getD block 0 0) (widthOf r) && eqb (getD block 1 0) (heightOf r)) (sym k ∙ h))
 
 module _ (p : Port) (s : List ℕ) (a : Answer) where
-  pub replies-written : (bytes t : List ℕ) (q : Port) (n : ℕ) → Carried (stream p bytes) q n s t → a ≡ answerOf Done q n → Replies (written p s bytes) (a .status) (a .port) (a .count) t bytes
+  pub replies-written : (bytes t : List ℕ) (q : Port) (n : ℕ) → Executed (stream p bytes) q n s t → a ≡ answerOf Done q n → Replies (written p s bytes) (a .status) (a .port) (a .count) t bytes
   unfolding written
   replies-written bytes t q n d is = rw is (record { status-is = refl; state-is = d .port-is; result-is = d .bells-are; cells = d .cells; bytes = refl })
 

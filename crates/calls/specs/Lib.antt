@@ -1,3 +1,3 @@
--- `Judging`: refusal 1, for every call that takes a screen, and a call that is refused before it starts. `Calls`: what a call on a port does that is not.
-pub mod Judging
+-- `Verdict`: refusal 1, for every call that takes a screen, and a call that is refused before it starts. `Calls`: what a call on a port does that is not.
+pub mod Verdict
 pub mod Calls

@@ -3,33 +3,33 @@ use block::block_fits;
 use block::block_length;
 use block::copy_in;
 use block::copy_out;
-use executor::carry_single;
-use executor::carry_stream;
+use executor::execute_byte;
+use executor::execute_stream;
 use port::Port;
 use reply::Status;
 use screen::is_screen;
 ghost use mathlib.Core.Path.{_≡_};
 ghost use mathlib.Core.List.{[], _∷_};
 ghost use lib.ListN.{length};
-ghost use Rattle.port.specs.Valid.{Valid};
+ghost use Rattle.port.specs.Valid.{ValidPort};
 ghost use Rattle.reply.specs.Reply.{Replies};
-ghost use Rattle.calls.specs.Judging.{screenJudgement};
+ghost use Rattle.calls.specs.Verdict.{screenVerdict};
 ghost use Rattle.calls.specs.Calls.{written, blockReturned, blockRestored, answerOf};
 
 // Whether a call is refused before it starts.
-pub enum Judged {
+pub enum Verdict {
     Accepted,
     Refused(Status),
 }
 
 // Refusal 1, by the screen's length: of every call that takes a screen.
-pub fn screen_judgement(length: usize) -> Judged
-    ensures { λ r. ⌜ r ≡ screenJudgement length ⌝ }
+pub fn screen_verdict(length: usize) -> Verdict
+    ensures { λ r. ⌜ r ≡ screenVerdict length ⌝ }
 {
     if is_screen(length) {
-        return Judged::Accepted;
+        return Verdict::Accepted;
     }
-    Judged::Refused(Status::ScreenLength)
+    Verdict::Refused(Status::ScreenLength)
 }
 
 // What a call on a port hands back: the status, the port, and the count of bells or of bytes.
@@ -51,25 +51,25 @@ pub fn answer_of(status: Status, port: Port, count: usize) -> Answer
 
 // Obeys a stream: each byte does what paper 01's tables say. The count is of the bells that it rang.
 pub fn write(p: Port, screen: &mut [u8], bytes: &[u8]) -> Answer
-    requires { ⌜ Valid p × (length (now screen) ≡ 1920) ⌝ }
+    requires { ⌜ ValidPort p × (length (now screen) ≡ 1920) ⌝ }
     ensures { λ r. ⌜ Replies (written p (now (screen .entry)) (now (bytes .entry))) (r .status) (r .port) (r .count) (now (screen .exit)) (now (bytes .entry)) ⌝ }
 {
-    let written = carry_stream(screen, p, bytes);
+    let written = execute_stream(screen, p, bytes);
     answer_of(Status::Done, written.port, written.bells)
 }
 
 // A write of one byte.
 pub fn write_byte(p: Port, screen: &mut [u8], byte: u8) -> Answer
-    requires { ⌜ Valid p × (length (now screen) ≡ 1920) ⌝ }
+    requires { ⌜ ValidPort p × (length (now screen) ≡ 1920) ⌝ }
     ensures { λ r. ⌜ Replies (written p (now (screen .entry)) (byte ∷ [])) (r .status) (r .port) (r .count) (now (screen .exit)) (byte ∷ []) ⌝ }
 {
-    let obeyed = carry_single(screen, p, byte);
+    let obeyed = execute_byte(screen, p, byte);
     answer_of(Status::Done, obeyed.port, obeyed.bells)
 }
 
 // Hands the viewport's text out: the block fills the front of the lent one. The count is of its bytes.
 pub fn return_block(p: Port, screen: &[u8], block: &mut [u8]) -> Answer
-    requires { ⌜ Valid p × (length (now screen) ≡ 1920) ⌝ }
+    requires { ⌜ ValidPort p × (length (now screen) ≡ 1920) ⌝ }
     ensures { λ r. ⌜ Replies (blockReturned p (now (screen .entry)) (now (block .entry))) (r .status) (r .port) (r .count) (now (screen .entry)) (now (block .exit)) ⌝ }
 {
     let rect = p.view.viewport;
@@ -83,7 +83,7 @@ pub fn return_block(p: Port, screen: &[u8], block: &mut [u8]) -> Answer
 
 // Puts a block's text into the viewport. The cursor stays.
 pub fn restore_block(p: Port, screen: &mut [u8], block: &[u8]) -> Answer
-    requires { ⌜ Valid p × (length (now screen) ≡ 1920) ⌝ }
+    requires { ⌜ ValidPort p × (length (now screen) ≡ 1920) ⌝ }
     ensures { λ r. ⌜ Replies (blockRestored p (now (screen .entry)) (now (block .entry))) (r .status) (r .port) (r .count) (now (screen .exit)) (now (block .entry)) ⌝ }
 {
     let rect = p.view.viewport;

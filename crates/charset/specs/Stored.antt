@@ -1,5 +1,5 @@
 -- Paper 01, 'From code to stored byte': the range rule, and what it is for a table to agree with it. Assumes nothing.
-use Prim.Native.Nat.{ℕ, _+_, _-_, _*_, _<_}
+use Prim.Native.Nat.{ℕ, _+_, _-_, _*_, _≤_, _<_}
 use mathlib.Core.Path.{_≡_}
 use mathlib.Core.Bool.{Bool, cond, _&&_, _||_}
 use mathlib.Core.List.{List}
@@ -7,6 +7,13 @@ use lib.Dec.{leb}
 use lib.ListN.{getD}
 use Rattle.charset.specs.declared.Mode.{Mode}
 use Rattle.charset.specs.declared.Mode.the-variants.{Normal, Inverse, MouseText}
+
+-- 'printing codes are $20 to $FF': as a test, and beside it as a proposition. A code is a byte.
+abbrev pub isPrinting : ℕ → Bool
+isPrinting code = leb 0x20 code
+
+abbrev pub Printing : ℕ → Type 0
+Printing code = 0x20 ≤ code
 
 unfoldable pub inRange : ℕ → ℕ → ℕ → Bool
 inRange low high code = leb low code && leb code high

@@ -3,8 +3,8 @@
 use libc::STDIN_FILENO;
 use libc::STDOUT_FILENO;
 use session::Session;
+use session::feed;
 use session::fresh_session;
-use session::hand_over;
 ghost use Prim.Native.Nat.{_<_};
 
 fn hex_digit(n: u8) -> u8 {
@@ -58,7 +58,7 @@ fn read_piece(screen: &mut [u8], at: Session) -> Piece {
     let mut piece = io::buffer();
     let got = io::read_full(STDIN_FILENO, &mut piece);
     Piece {
-        session: hand_over(screen, at, &piece[..got]),
+        session: feed(screen, at, &piece[..got]),
         more: got == 4096,
     }
 }

@@ -8,39 +8,39 @@ use lib.ListN.{length}
 use Rattle.laws.proofs.Tests.{fails}
 use Rattle.block.specs.Block.{blockLength, blockFits}
 use Rattle.port.specs.declared.Port.{Port}
-use Rattle.port.specs.Valid.{Valid}
+use Rattle.port.specs.Valid.{ValidPort}
 use Rattle.port.proofs.Validity.{decides-valid}
 use Rattle.reply.specs.declared.Status.the-variants.{Done, ScreenLength, Invalid, BlockTooShort, BlockMismatch}
 use Rattle.reply.specs.Reply.{refusal}
-use Rattle.calls.specs.declared.Judged.the-variants.{Accepted, Refused}
-use Rattle.calls.specs.Judging.{firstOf}
+use Rattle.calls.specs.declared.Verdict.the-variants.{Accepted, Refused}
+use Rattle.calls.specs.Verdict.{firstOf}
 use Rattle.calls.specs.Calls.{PortReply, PortCall, written, blockReturned, blockRestored}
-use Rattle.calls.proofs.Judging.{on-screen, off-screen, made, refused, by-judged}
+use Rattle.calls.proofs.Verdicts.{on-screen, off-screen, made, refused, by-verdict}
 use Rattle.calls.proofs.Refusals.{Unchanged, written-refuses, returned-refuses, restored-refuses}
-use Rattle.console.specs.Calls.{portJudgement, judgement, judged, writeCall, returnCall, restoreCall}
+use Rattle.console.specs.Calls.{portVerdict, plainVerdict, plainCall, writeCall, returnCall, restoreCall}
 
 -- 1 where there are not 1,920 cells, then 2 where the port is not valid, and else none
 module _ (p : Port) (s : List ℕ) where
-  pub judges-good : Valid p → length s ≡ 1920 → judgement p (length s) ≡ Accepted
-  unfolding judgement firstOf portJudgement
+  pub judges-good : ValidPort p → length s ≡ 1920 → plainVerdict p (length s) ≡ Accepted
+  unfolding plainVerdict firstOf portVerdict
   judges-good v len = rw (on-screen (length s) len, decides-valid p .passes v)
 
-  judges-length : (length s ≡ 1920 → ⊥) → judgement p (length s) ≡ Refused ScreenLength
-  unfolding judgement firstOf
+  judges-length : (length s ≡ 1920 → ⊥) → plainVerdict p (length s) ≡ Refused ScreenLength
+  unfolding plainVerdict firstOf
   judges-length no-screen = rw (off-screen (length s) no-screen)
 
-  judges-port : length s ≡ 1920 → (Valid p → ⊥) → judgement p (length s) ≡ Refused Invalid
-  unfolding judgement firstOf portJudgement
+  judges-port : length s ≡ 1920 → (ValidPort p → ⊥) → plainVerdict p (length s) ≡ Refused Invalid
+  unfolding plainVerdict firstOf portVerdict
   judges-port len bad = rw (on-screen (length s) len, fails (decides-valid p) bad)
 
 module _ (call : PortCall) (p : Port) (s block : List ℕ) where
-  pub accepted : Valid p → length s ≡ 1920 → judged call p s block ≡ call p s block
+  pub accepted : ValidPort p → length s ≡ 1920 → plainCall call p s block ≡ call p s block
   accepted v len = made 0 p s block (call p s block) (judges-good p s v len)
 
-  pub refused-length : (length s ≡ 1920 → ⊥) → judged call p s block ≡ refusal ScreenLength p s block
+  pub refused-length : (length s ≡ 1920 → ⊥) → plainCall call p s block ≡ refusal ScreenLength p s block
   refused-length no-screen = refused 0 p s block (call p s block) ScreenLength (judges-length p s no-screen)
 
-  pub refused-port : length s ≡ 1920 → (Valid p → ⊥) → judged call p s block ≡ refusal Invalid p s block
+  pub refused-port : length s ≡ 1920 → (ValidPort p → ⊥) → plainCall call p s block ≡ refusal Invalid p s block
   refused-port len bad = refused 0 p s block (call p s block) Invalid (judges-port p s len bad)
 
 status-of : (t : Bool) (a b : PortReply) → cond t a b .status ≡ cond t (a .status) (b .status)
@@ -48,7 +48,7 @@ status-of true a b = refl
 status-of false a b = refl
 
 -- on a valid port and 1,920 cells: 0, but for 9 and 10 by their rules
-module _ (p : Port) (s block : List ℕ) (v : Valid p) (len : length s ≡ 1920) where
+module _ (p : Port) (s block : List ℕ) (v : ValidPort p) (len : length s ≡ 1920) where
   pub write-answers : writeCall p s block .status ≡ Done
   unfolding written
   write-answers = ap (λ (r : PortReply). r .status) (accepted written p s block v len)
@@ -63,14 +63,14 @@ module _ (p : Port) (s block : List ℕ) (v : Valid p) (len : length s ≡ 1920)
 
 -- a refused call changes nothing and counts 0
 module _ (p : Port) (s block : List ℕ) where
-  judged-refuses : (call : PortCall) → Unchanged p s block (call p s block) → Unchanged p s block (judged call p s block)
-  judged-refuses call h = by-judged 0 p s block (call p s block) (Unchanged p s block) (judgement p (length s)) (λ status _ e. refl) (λ _. h)
+  verdict-refuses : (call : PortCall) → Unchanged p s block (call p s block) → Unchanged p s block (plainCall call p s block)
+  verdict-refuses call h = by-verdict 0 p s block (call p s block) (Unchanged p s block) (plainVerdict p (length s)) (λ status _ e. refl) (λ _. h)
 
   pub write-refuses : Unchanged p s block (writeCall p s block)
-  write-refuses = judged-refuses written (written-refuses p s block)
+  write-refuses = verdict-refuses written (written-refuses p s block)
 
   pub return-refuses : Unchanged p s block (returnCall p s block)
-  return-refuses = judged-refuses blockReturned (returned-refuses p s block)
+  return-refuses = verdict-refuses blockReturned (returned-refuses p s block)
 
   pub restore-refuses : Unchanged p s block (restoreCall p s block)
-  restore-refuses = judged-refuses blockRestored (restored-refuses p s block)
+  restore-refuses = verdict-refuses blockRestored (restored-refuses p s block)

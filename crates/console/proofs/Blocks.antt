@@ -10,7 +10,7 @@ use Rattle.screen.proofs.Sizes.{decides-screen}
 use Rattle.block.specs.Block.{blockLength, rowCells}
 use Rattle.block.proofs.Rows.{row-not-empty}
 use Rattle.port.specs.declared.Port.{Port}
-use Rattle.port.specs.Valid.{Valid}
+use Rattle.port.specs.Valid.{ValidPort}
 use Rattle.port.proofs.Validity.{decides-valid, viewport-on-screen}
 use Rattle.reply.specs.declared.Status.the-variants.{Done}
 use Rattle.reply.specs.Laws.{RoundTrip}
@@ -23,7 +23,7 @@ use Rattle.console.proofs.Answers.{accepted}
 abbrev pub restoreAfter : PortReply → PortReply
 restoreAfter r = restoreCall (r .state) (r .screen) (take (r .result) (r .block))
 
-module _ (p : Port) (s block : List ℕ) (v : Valid p) (len : length s ≡ 1920) (room : blockLength (p .view .viewport) ≤ length block) where
+module _ (p : Port) (s block : List ℕ) (v : ValidPort p) (len : length s ≡ 1920) (room : blockLength (p .view .viewport) ≤ length block) where
   returned : returnCall p s block ≡ handedOut p s block v len room
   returned = accepted blockReturned p s block v len ∙ handed-out p s block v len room
 
@@ -39,7 +39,7 @@ module _ (p : Port) (s block : List ℕ) (v : Valid p) (len : length s ≡ 1920)
   }
 
 -- a good row is that stretch of the screen, and never empty
-module _ (p : Port) (s : List ℕ) (row : ℕ) (v : Valid p) (len : length s ≡ 1920) (low : row < heightOf (p .view .viewport)) where
+module _ (p : Port) (s : List ℕ) (row : ℕ) (v : ValidPort p) (len : length s ≡ 1920) (low : row < heightOf (p .view .viewport)) where
   pub row-shown : rowCall p s row ≡ rowCells (p .view .viewport) row s
   unfolding rowCall
   row-shown = simp (decides-screen (length s) .passes len, decides-valid p .passes v, lt-ltb row (heightOf (p .view .viewport)) low)

@@ -8,7 +8,7 @@ use Rattle.laws.proofs.Tests.{either}
 use Rattle.rectangle.specs.Edit.{draw}
 use Rattle.screen.proofs.Sizes.{decides-screen}
 use Rattle.port.specs.declared.Port.{Port}
-use Rattle.port.specs.Valid.{Valid}
+use Rattle.port.specs.Valid.{ValidPort}
 use Rattle.port.specs.Stream.{stream}
 use Rattle.port.specs.Commands.{commandCodes, occurrences, waitOf}
 use Rattle.port.proofs.Validity.{decides-valid}
@@ -30,7 +30,7 @@ module _ (p : Port) (s a b : List ℕ) where
   both-refused : (status : Status) → ((bytes : List ℕ) → writeCall p s bytes ≡ refusal status p s bytes) → Cut
   both-refused status no-write = simp no-write (record { first-status = refl; second-status = refl; state = refl; screen = refl; count = refl })
 
-  both-accepted : Valid p → length s ≡ 1920 → Cut
+  both-accepted : ValidPort p → length s ≡ 1920 → Cut
   unfolding written
   both-accepted v len =
       let first = accepted written p s a v len in
@@ -46,5 +46,5 @@ write-cut p s a b =
     (either (decides-screen (length s)))
 
 -- of any write that is not refused; a refused one counts 0
-pub write-bells : (p : Port) (s bytes : List ℕ) → Valid p → length s ≡ 1920 → writeCall p s bytes .result ≡ occurrences 7 (commandCodes (waitOf p) bytes)
+pub write-bells : (p : Port) (s bytes : List ℕ) → ValidPort p → length s ≡ 1920 → writeCall p s bytes .result ≡ occurrences 7 (commandCodes (waitOf p) bytes)
 write-bells p s bytes v len = ap (λ (r : PortReply). r .result) (accepted written p s bytes v len) ∙ written-bells p s bytes

@@ -12,56 +12,56 @@ use Rattle.screen.specs.Size.{isScreen}
 use Rattle.screen.proofs.Sizes.{decides-screen}
 use Rattle.block.specs.Block.{rowCells}
 use Rattle.port.specs.declared.Port.{Port}
-use Rattle.port.specs.Valid.{valid, Valid}
+use Rattle.port.specs.Valid.{validPort, ValidPort}
 use Rattle.port.proofs.Validity.{decides-valid, viewport-on-screen}
 use Rattle.reply.specs.declared.Status.{Status}
 use Rattle.reply.specs.declared.Status.the-variants.{ScreenLength, Invalid}
 use Rattle.reply.specs.Reply.{Replies}
 use Rattle.calls.specs.declared.Answer.{Answer}
-use Rattle.calls.specs.declared.Judged.{Judged}
-use Rattle.calls.specs.declared.Judged.the-variants.{Accepted, Refused}
-use Rattle.calls.specs.Judging.{screenJudgement, firstOf}
+use Rattle.calls.specs.declared.Verdict.{Verdict}
+use Rattle.calls.specs.declared.Verdict.the-variants.{Accepted, Refused}
+use Rattle.calls.specs.Verdict.{screenVerdict, firstOf}
 use Rattle.calls.specs.Calls.{PortReply, PortCall, answerOf}
-use Rattle.calls.proofs.Judging.{accepted-by, screen-accepted, both-accepted, made, refused}
+use Rattle.calls.proofs.Verdicts.{accepted-by, screen-accepted, both-accepted, made, refused}
 use Rattle.console.specs.declared.ByteAnswer.{ByteAnswer}
-use Rattle.console.specs.Calls.{portJudgement, judgement, judged, rowCall}
+use Rattle.console.specs.Calls.{portVerdict, plainVerdict, plainCall, rowCall}
 
-module _ (p : Port) (s : List ℕ) (j : Judged) (is : j ≡ judgement p (length s)) where
+module _ (p : Port) (s : List ℕ) (j : Verdict) (is : j ≡ plainVerdict p (length s)) where
   -- ---- what a judgement shows
-  both : j ≡ Accepted → (screenJudgement (length s) ≡ Accepted) × (portJudgement p ≡ Accepted)
-  unfolding judgement
-  both e = both-accepted (screenJudgement (length s)) (portJudgement p) (sym is ∙ e)
+  both : j ≡ Accepted → (screenVerdict (length s) ≡ Accepted) × (portVerdict p ≡ Accepted)
+  unfolding plainVerdict
+  both e = both-accepted (screenVerdict (length s)) (portVerdict p) (sym is ∙ e)
 
   pub accepted-size : j ≡ Accepted → length s ≡ 1920
   accepted-size e = screen-accepted (length s) (both e .0)
 
-  pub accepted-port : j ≡ Accepted → Valid p
-  unfolding portJudgement
-  accepted-port e = decides-valid p .holds (accepted-by (valid p) Invalid (both e .1))
+  pub accepted-port : j ≡ Accepted → ValidPort p
+  unfolding portVerdict
+  accepted-port e = decides-valid p .holds (accepted-by (validPort p) Invalid (both e .1))
 
   pub accepted-viewport : j ≡ Accepted → OnScreen (p .view .viewport)
   accepted-viewport e = viewport-on-screen p (accepted-port e)
 
   -- ---- a call that is refused before it starts, and one that is made
   module _ (call : PortCall) (block : List ℕ) where
-    pub replies-refused : (status : Status) (a : Answer) → j ≡ Refused status → a ≡ answerOf status p 0 → Replies (judged call p s block) (a .status) (a .port) (a .count) s block
+    pub replies-refused : (status : Status) (a : Answer) → j ≡ Refused status → a ≡ answerOf status p 0 → Replies (plainCall call p s block) (a .status) (a .port) (a .count) s block
     replies-refused status a e h =
         rw (refused 0 p s block (call p s block) status (sym is ∙ e), h) (record { status-is = refl; state-is = refl; result-is = refl; cells = refl; bytes = refl })
 
-    pub replies-made : (a : Answer) (t after : List ℕ) → j ≡ Accepted → Replies (call p s block) (a .status) (a .port) (a .count) t after → Replies (judged call p s block) (a .status) (a .port) (a .count) t after
+    pub replies-made : (a : Answer) (t after : List ℕ) → j ≡ Accepted → Replies (call p s block) (a .status) (a .port) (a .count) t after → Replies (plainCall call p s block) (a .status) (a .port) (a .count) t after
     replies-made a t after e h = rw (made 0 p s block (call p s block) (sym is ∙ e)) h
 
   -- ---- rows
   pub row-refused : (row : ℕ) (t : List ℕ) (status : Status) → j ≡ Refused status → t ≡ [] → t ≡ rowCall p s row
-  unfolding rowCall judgement screenJudgement portJudgement firstOf
-  row-refused row t status e empty = simp (bad (isScreen (length s)) (valid p) (sym is ∙ e)) empty
+  unfolding rowCall plainVerdict screenVerdict portVerdict firstOf
+  row-refused row t status e empty = simp (bad (isScreen (length s)) (validPort p) (sym is ∙ e)) empty
     where
       bad : (a b : Bool) → firstOf (cond a Accepted (Refused ScreenLength)) (cond b Accepted (Refused Invalid)) ≡ Refused status → (a && b) ≡ false
       bad true true h = absurd (let z : _≡_ {A = ℕ} 0 1 = cc in omega arith)
       bad true false h = refl
       bad false b h = refl
 
-  good : j ≡ Accepted → (isScreen (length s) && valid p) ≡ true
+  good : j ≡ Accepted → (isScreen (length s) && validPort p) ≡ true
   good e = and-both _ _ (decides-screen (length s) .passes (accepted-size e)) (decides-valid p .passes (accepted-port e))
 
   pub row-past : (row n : ℕ) (t : List ℕ) → j ≡ Accepted → n ≡ heightOf (p .view .viewport) → n ≤ row → t ≡ [] → t ≡ rowCall p s row

@@ -2,22 +2,22 @@
 // A call is judged here and made in `calls`.
 use block::row_cells;
 use calls::Answer;
-use calls::Judged;
+use calls::Verdict;
 use calls::answer_of;
-use calls::screen_judgement;
+use calls::screen_verdict;
 use port::Port;
 use port::state::fresh_port;
 use port::valid::valid_port;
 use port::valid::valid_port_inlined;
 use rectangle::Rect;
-use rectangle::height;
+use rectangle::height_of;
 use reply::Status;
 use screen::no_cells;
 ghost use mathlib.Core.Path.{_≡_};
 ghost use mathlib.Core.List.{[], _∷_};
 ghost use Rattle.reply.specs.Reply.{Replies};
 ghost use Rattle.calls.specs.Calls.{answerOf};
-ghost use Rattle.console.specs.Calls.{freshConsole, writeCall, returnCall, restoreCall, rowCall, portJudgement, judgement};
+ghost use Rattle.console.specs.Calls.{freshConsole, writeCall, returnCall, restoreCall, rowCall, portVerdict, plainVerdict};
 
 // A fresh port of the whole screen.
 pub fn fresh_console() -> Port
@@ -32,38 +32,38 @@ pub fn fresh_console() -> Port
 }
 
 // Refusal 2.
-fn judge_port(p: Port) -> Judged
-    ensures { λ r. ⌜ r ≡ portJudgement p ⌝ }
+fn port_verdict(p: Port) -> Verdict
+    ensures { λ r. ⌜ r ≡ portVerdict p ⌝ }
 {
     if valid_port(p) {
-        return Judged::Accepted;
+        return Verdict::Accepted;
     }
-    Judged::Refused(Status::Invalid)
+    Verdict::Refused(Status::Invalid)
 }
 
 // Refusal 1 before it.
-fn judge(p: Port, length: usize) -> Judged
-    ensures { λ r. ⌜ r ≡ judgement p length ⌝ }
+fn plain_verdict(p: Port, length: usize) -> Verdict
+    ensures { λ r. ⌜ r ≡ plainVerdict p length ⌝ }
 {
-    let on_screen = screen_judgement(length);
+    let on_screen = screen_verdict(length);
     match on_screen {
-        Judged::Refused(status) => Judged::Refused(status),
-        Judged::Accepted => judge_port(p),
+        Verdict::Refused(status) => Verdict::Refused(status),
+        Verdict::Accepted => port_verdict(p),
     }
 }
 
 // Both refusals for the one-byte call alone, inlined there with `valid_port_inlined`.
-fn judge_inlined(p: Port, length: usize) -> Judged
-    ensures { λ r. ⌜ r ≡ judgement p length ⌝ }
+fn plain_verdict_inlined(p: Port, length: usize) -> Verdict
+    ensures { λ r. ⌜ r ≡ plainVerdict p length ⌝ }
 {
-    let on_screen = screen_judgement(length);
+    let on_screen = screen_verdict(length);
     match on_screen {
-        Judged::Refused(status) => Judged::Refused(status),
-        Judged::Accepted => {
+        Verdict::Refused(status) => Verdict::Refused(status),
+        Verdict::Accepted => {
             if valid_port_inlined(p) {
-                return Judged::Accepted;
+                return Verdict::Accepted;
             }
-            Judged::Refused(Status::Invalid)
+            Verdict::Refused(Status::Invalid)
         }
     }
 }
@@ -72,10 +72,10 @@ fn judge_inlined(p: Port, length: usize) -> Judged
 pub fn write(p: Port, screen: &mut [u8], bytes: &[u8]) -> Answer
     ensures { λ r. ⌜ Replies (writeCall p (now (screen .entry)) (now (bytes .entry))) (r .status) (r .port) (r .count) (now (screen .exit)) (now (bytes .entry)) ⌝ }
 {
-    let judged = judge(p, screen.len());
-    match judged {
-        Judged::Refused(status) => answer_of(status, p, 0),
-        Judged::Accepted => calls::write(p, screen, bytes),
+    let verdict = plain_verdict(p, screen.len());
+    match verdict {
+        Verdict::Refused(status) => answer_of(status, p, 0),
+        Verdict::Accepted => calls::write(p, screen, bytes),
     }
 }
 
@@ -83,10 +83,10 @@ pub fn write(p: Port, screen: &mut [u8], bytes: &[u8]) -> Answer
 pub fn write_byte(p: Port, screen: &mut [u8], byte: u8) -> Answer
     ensures { λ r. ⌜ Replies (writeCall p (now (screen .entry)) (byte ∷ [])) (r .status) (r .port) (r .count) (now (screen .exit)) (byte ∷ []) ⌝ }
 {
-    let judged = judge_inlined(p, screen.len());
-    match judged {
-        Judged::Refused(status) => answer_of(status, p, 0),
-        Judged::Accepted => calls::write_byte(p, screen, byte),
+    let verdict = plain_verdict_inlined(p, screen.len());
+    match verdict {
+        Verdict::Refused(status) => answer_of(status, p, 0),
+        Verdict::Accepted => calls::write_byte(p, screen, byte),
     }
 }
 
@@ -141,10 +141,10 @@ pub fn put_byte_by_value(p: Port, screen: &mut [u8], byte: u8) -> Answer
 pub fn return_block(p: Port, screen: &[u8], block: &mut [u8]) -> Answer
     ensures { λ r. ⌜ Replies (returnCall p (now (screen .entry)) (now (block .entry))) (r .status) (r .port) (r .count) (now (screen .entry)) (now (block .exit)) ⌝ }
 {
-    let judged = judge(p, screen.len());
-    match judged {
-        Judged::Refused(status) => answer_of(status, p, 0),
-        Judged::Accepted => calls::return_block(p, screen, block),
+    let verdict = plain_verdict(p, screen.len());
+    match verdict {
+        Verdict::Refused(status) => answer_of(status, p, 0),
+        Verdict::Accepted => calls::return_block(p, screen, block),
     }
 }
 
@@ -152,10 +152,10 @@ pub fn return_block(p: Port, screen: &[u8], block: &mut [u8]) -> Answer
 pub fn restore_block(p: Port, screen: &mut [u8], block: &[u8]) -> Answer
     ensures { λ r. ⌜ Replies (restoreCall p (now (screen .entry)) (now (block .entry))) (r .status) (r .port) (r .count) (now (screen .exit)) (now (block .entry)) ⌝ }
 {
-    let judged = judge(p, screen.len());
-    match judged {
-        Judged::Refused(status) => answer_of(status, p, 0),
-        Judged::Accepted => calls::restore_block(p, screen, block),
+    let verdict = plain_verdict(p, screen.len());
+    match verdict {
+        Verdict::Refused(status) => answer_of(status, p, 0),
+        Verdict::Accepted => calls::restore_block(p, screen, block),
     }
 }
 
@@ -163,12 +163,12 @@ pub fn restore_block(p: Port, screen: &mut [u8], block: &[u8]) -> Answer
 pub fn row_view(p: Port, screen: &[u8], row: usize) -> &[u8]
     ensures { λ r. ⌜ now r ≡ rowCall p (now (screen .entry)) row ⌝ }
 {
-    let judged = judge(p, screen.len());
-    match judged {
-        Judged::Refused(_) => no_cells(screen),
-        Judged::Accepted => {
+    let verdict = plain_verdict(p, screen.len());
+    match verdict {
+        Verdict::Refused(_) => no_cells(screen),
+        Verdict::Accepted => {
             let rect = p.view.viewport;
-            if row < height(rect) as usize {
+            if row < height_of(rect) as usize {
                 return row_cells(screen, rect, row);
             }
             no_cells(screen)

@@ -10,7 +10,7 @@ use Rattle.port.specs.declared.View.{View}
 use Rattle.port.specs.declared.Port.{Port}
 use Rattle.port.specs.Valid.{parameters}
 use Rattle.port.specs.Effect.{Effect, becomes}
-use Rattle.port.specs.Codes.{setPortSize, spaces, dleSpaceExpansion}
+use Rattle.port.specs.Codes.{setPortSize, printSpaces, dleSpaceExpansion}
 use Rattle.port.specs.Step.{Outcome, becomesPort, onView, control, perform, parameter, step}
 use Rattle.port.specs.State as state
 use Rattle.port.specs.Step as port
@@ -22,7 +22,7 @@ use Rattle.view.specs.declared.ViewPlan.{ViewPlan}
 use Rattle.view.specs.Plan.{effectOf, planEffect}
 use Rattle.view.specs.Place.{spaceCount}
 use Rattle.view.proofs.Places.{spaces-are}
-use Rattle.printer.specs.Carry.{AllOnScreen, Drew, Obeyed}
+use Rattle.printer.specs.Execute.{AllOnScreen, Drew, Obeyed}
 use Rattle.printer.specs.Print.{Placed}
 use Rattle.printer.proofs.Draws.{on-screen}
 use Rattle.control.specs.declared.active.Active.{Active}
@@ -42,7 +42,7 @@ moved-on-screen m = plan-on-screen (effectOf m)
 pub planned-on-screen : (m : ViewPlan) {v : View} {e : Effect} → planEffect m ≡ e → Placed v → KeepsView (v .viewport) v e → AllOnScreen (planEffect m .edits)
 planned-on-screen m = plan-on-screen (planEffect m)
 
-pub spaces-on-screen : (n : ℕ) (v : View) → Placed v → AllOnScreen (spaces n v .edits)
+pub spaces-on-screen : (n : ℕ) (v : View) → Placed v → AllOnScreen (printSpaces n v .edits)
 spaces-on-screen n v h = on-screen-effect h (keeps-spaces (v .viewport) n v h)
 
 -- the kinds of arms
@@ -79,10 +79,10 @@ module _ (p : Port) (a done : Active) (waits : done ≡ waitFor a 0) {r : Active
   performed-size home v left top right bottom e f at = performed-view e (f ∙ ap (λ (x : Rect). setPortSize x v left top right bottom) (sym at))
 
   -- $10
-  pub performed-spaces : {t : List ℕ} {w : View} (v : View) (n b : ℕ) → r ≡ withView done w → Drew (spaces n v) w s t → n ≡ spaceCount v b
+  pub performed-spaces : {t : List ℕ} {w : View} (v : View) (n b : ℕ) → r ≡ withView done w → Drew (printSpaces n v) w s t → n ≡ spaceCount v b
       → Obeyed (onView (port.waitFor (withActive p a) 0) (dleSpaceExpansion v b)) (withActive p r) s t
   performed-spaces v n b e d count =
-      performed-effect (e ∙ ap (withView done) (d .view)) (d .cells) (ap (λ (x : ℕ). spaces x v) count ∙ spaces-are v b)
+      performed-effect (e ∙ ap (withView done) (d .view)) (d .cells) (ap (λ (x : ℕ). printSpaces x v) count ∙ spaces-are v b)
 
 -- a code by its number
 pub at-code : {x : Port} {s t : List ℕ} (p : Port) (code k : ℕ) → code ≡ k → Obeyed (control p k) x s t → Obeyed (control p code) x s t

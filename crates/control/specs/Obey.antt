@@ -6,7 +6,7 @@ use Rattle.rectangle.specs.declared.Rect.{Rect}
 use Rattle.port.specs.declared.Port.{Port}
 use Rattle.port.specs.Valid.{parameters}
 use Rattle.port.specs.Step.{Outcome}
-use Rattle.printer.specs.Carry.{Obeyed}
+use Rattle.printer.specs.Execute.{Obeyed}
 use Rattle.printer.specs.Print.{Placed}
 use Rattle.control.specs.declared.active.Active.{Active}
 use Rattle.control.specs.Active.{withActive}

@@ -32,7 +32,7 @@ ghost use Rattle.rectangle.specs.Edit.{draw};
 ghost use Rattle.charset.specs.Stored.{Agrees};
 ghost use Rattle.port.specs.Step as rules;
 ghost use Rattle.view.specs.Plan.{effectOf, planEffect};
-ghost use Rattle.printer.specs.Carry.{AllOnScreen};
+ghost use Rattle.printer.specs.Execute.{AllOnScreen};
 ghost use Rattle.printer.specs.Print.{Placed};
 ghost use Rattle.control.specs.Active.{withView};
 ghost use Rattle.control.specs.Obey.{Ready, Obeys, ObeysAt};
@@ -83,7 +83,7 @@ fn control(screen: &mut [u8], a: Active, code: u8) -> Active
         0x16 => moved(screen, a, scroll_down(v)),
         0x17 => moved(screen, a, scroll_up(v)),
         0x18 => with_view(a, disable_mousetext(v)),
-        0x19 => with_view(a, place::home_cursor(v)),
+        0x19 => with_view(a, cursor::home_cursor(v)),
         0x1A => moved(screen, a, erase::clear_line(v)),
         0x1B => with_view(a, enable_mousetext(v)),
         0x1C => moved(screen, a, cursor::move_cursor_right(v)),

@@ -16,7 +16,7 @@ use Rattle.rectangle.specs.Edit.{draw, drawCell}
 use Rattle.rectangle.specs.Rectangles.{wholeScreen}
 use Rattle.rectangle.proofs.Local.{draw-cells}
 use Rattle.port.specs.declared.View.{View}
-use Rattle.port.specs.Valid.{Valid}
+use Rattle.port.specs.Valid.{ValidPort}
 use Rattle.port.specs.Step.{Outcome}
 use Rattle.port.specs.Stream.{stream}
 use Rattle.port.specs.Keeps.{KeepsHome}
@@ -74,7 +74,7 @@ cellsRight e =
 abbrev passes : Example → Bool
 passes e = portRight e && cellsRight e
 
-fresh : Valid freshConsole
+fresh : ValidPort freshConsole
 fresh = fresh-valid wholeScreen (omega arith)
 
 blank-size : length blankScreen ≡ 1920

@@ -1,2 +1,2 @@
--- `Carrying`: what the tests show, and the loop over a stream.
-pub mod Carrying
+-- `Executing`: what the tests show, and the loop over a stream.
+pub mod Executing

@@ -16,11 +16,12 @@ use view::mode_of;
 ghost use mathlib.Core.Path.{_≡_};
 ghost use mathlib.Core.Bool.{cond, _&&_, _||_};
 ghost use mathlib.Core.List.{[], _∷_};
-ghost use lib.Dec.{leb, eqb};
+ghost use lib.Dec.{eqb};
 ghost use lib.ListN.{length};
-ghost use Rattle.port.specs.Valid.{Valid};
+ghost use Rattle.charset.specs.Stored.{isPrinting};
+ghost use Rattle.port.specs.Valid.{ValidPort};
 ghost use Rattle.port.specs.Stream.{stream};
-ghost use Rattle.printer.specs.Carry.{Carried};
+ghost use Rattle.printer.specs.Execute.{Executed};
 
 // The port that comes next, and the bells that were rung.
 pub struct Progress {
@@ -30,7 +31,7 @@ pub struct Progress {
 
 // Whether a byte is a printing code: nothing waits, and it is no control code.
 fn prints(waiting: u8, b: u8) -> bool
-    ensures { λ r. ⌜ r ≡ (eqb waiting 0 && leb 32 b) ⌝ }
+    ensures { λ r. ⌜ r ≡ (eqb waiting 0 && isPrinting b) ⌝ }
 {
     (waiting == 0) & (32 <= b)
 }
@@ -51,9 +52,9 @@ fn bells_of(waiting: u8, b: u8) -> usize
 
 // Each byte of the stream in its order. The table is made once, and lent to each byte.
 // Of the port its active part is carried from byte to byte: $01 and $04 alone join it to the rest and split it off again.
-pub fn carry_stream(screen: &mut [u8], p: Port, bytes: &[u8]) -> Progress
-    requires { ⌜ Valid p × (length (now screen) ≡ 1920) ⌝ }
-    ensures { λ r. ⌜ Carried (stream p (now (bytes .entry))) (r .port) (r .bells) (now (screen .entry)) (now (screen .exit)) ⌝ }
+pub fn execute_stream(screen: &mut [u8], p: Port, bytes: &[u8]) -> Progress
+    requires { ⌜ ValidPort p × (length (now screen) ≡ 1920) ⌝ }
+    ensures { λ r. ⌜ Executed (stream p (now (bytes .entry))) (r .port) (r .bells) (now (screen .entry)) (now (screen .exit)) ⌝ }
 {
     let table = table_copy();
     let home = p.home;
@@ -87,9 +88,9 @@ pub fn carry_stream(screen: &mut [u8], p: Port, bytes: &[u8]) -> Progress
 }
 
 // A stream of one byte. A printing code needs no whole table made for it.
-pub fn carry_single(screen: &mut [u8], p: Port, b: u8) -> Progress
-    requires { ⌜ Valid p × (length (now screen) ≡ 1920) ⌝ }
-    ensures { λ r. ⌜ Carried (stream p (b ∷ [])) (r .port) (r .bells) (now (screen .entry)) (now (screen .exit)) ⌝ }
+pub fn execute_byte(screen: &mut [u8], p: Port, b: u8) -> Progress
+    requires { ⌜ ValidPort p × (length (now screen) ≡ 1920) ⌝ }
+    ensures { λ r. ⌜ Executed (stream p (b ∷ [])) (r .port) (r .bells) (now (screen .entry)) (now (screen .exit)) ⌝ }
 {
     if prints(p.waiting, b) {
         let byte = stored_alone(mode_of(p.view), b);
@@ -102,5 +103,5 @@ pub fn carry_single(screen: &mut [u8], p: Port, b: u8) -> Progress
     // A copy is handed on: so the port itself need not lie in memory where a code is printed.
     let port = p;
     let bytes = [b; 1];
-    carry_stream(screen, port, &bytes)
+    execute_stream(screen, port, &bytes)
 }

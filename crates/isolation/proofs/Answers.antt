@@ -18,7 +18,7 @@ use Rattle.slots.specs.State.{slotAt, Open, Free, Closed, slotOf}
 use Rattle.slots.specs.Valid.{ValidMultiplexer}
 use Rattle.slots.proofs.Validity.{decides-multiplexer}
 use Rattle.slots.proofs.Slots.{decides-client, slot-client, slot-found, slot-open}
-use Rattle.multiplexer.specs.Located.{multiplexerJudgement, claimJudgement, freeSlotFor, openSlot, judgedFirst, clientSlot, claimSlot, locatedOn}
+use Rattle.multiplexer.specs.Located.{multiplexerVerdict, claimVerdict, freeSlotFor, openSlot, verdictFirst, clientSlot, claimSlot, locatedOn}
 use Rattle.multiplexer.specs.Calls.{MultiplexerReply, onSlot, onClient, writeCall, returnCall, restoreCall, openedAt, openCall, closedAt, closeCall}
 use Rattle.multiplexer.proofs.Claims.{decides-pane-shared}
 use Rattle.multiplexer.proofs.Replying.{slotStatus, by-screen}
@@ -57,9 +57,9 @@ module _ (m : Multiplexer) (s : List ℕ) (n : ℕ) (r : Rect) (block : List ℕ
   client-first : (s′ block′ : List ℕ) (reply : ℕ → MultiplexerReply) {xs : List Status}
       → (ValidMultiplexer m → (i : ℕ) → Open m i → slotAt m i .client ≡ n → First (Applies m s n r block) (reply i .status) xs)
       → First (Applies m s n r block) (slotStatus m s′ block′ reply (clientSlot m n)) (Invalid ∷ NotOpen ∷ xs)
-  unfolding multiplexerJudgement openSlot judgedFirst onSlot
+  unfolding multiplexerVerdict openSlot verdictFirst onSlot
   client-first s′ block′ reply rest =
-      refused-unless (λ j. slotStatus m s′ block′ reply (judgedFirst j (openSlot m n))) (decides-multiplexer m) (λ k. k) (λ p k. k p) refl λ v.
+      refused-unless (λ j. slotStatus m s′ block′ reply (verdictFirst j (openSlot m n))) (decides-multiplexer m) (λ k. k) (λ p k. k p) refl λ v.
       refused-not (slotStatus m s′ block′ reply) (decides-client m n) (λ k i o e. k (i, o, e)) (λ k closed. closed (k .0) (k .1) (k .2)) refl λ k.
       rw (slot-open m v (k .0) n (k .1) (k .2)) (rest v (k .0) (k .1) (k .2))
 
@@ -93,12 +93,12 @@ module _ (m : Multiplexer) (s : List ℕ) (n : ℕ) (r : Rect) (block : List ℕ
   close-first = client-first [] [] (closedAt m) (λ v i o e. none refl)
 
   claim-first : First (Applies m s n r block) (slotStatus m s [] (openedAt m s n r) (claimSlot m n r)) (Invalid ∷ ClientZero ∷ PaneIllegal ∷ ClientTaken ∷ PaneShared ∷ Full ∷ [])
-  unfolding multiplexerJudgement claimJudgement freeSlotFor judgedFirst onSlot
+  unfolding multiplexerVerdict claimVerdict freeSlotFor verdictFirst onSlot
   claim-first =
       let given = slotStatus m s [] (openedAt m s n r) in
-      refused-unless (λ j. given (judgedFirst j (judgedFirst (claimJudgement n r) (freeSlotFor m n r)))) (decides-multiplexer m) (λ k. k) (λ p k. k p) refl λ v.
-      refused-if (λ j. given (judgedFirst j (freeSlotFor m n r))) (decides-eq n 0) refl λ _.
-      refused-not (λ j. given (judgedFirst j (freeSlotFor m n r))) (decides-legal r) (λ k. k) (λ p k. k p) refl λ legal.
+      refused-unless (λ j. given (verdictFirst j (verdictFirst (claimVerdict n r) (freeSlotFor m n r)))) (decides-multiplexer m) (λ k. k) (λ p k. k p) refl λ v.
+      refused-if (λ j. given (verdictFirst j (freeSlotFor m n r))) (decides-eq n 0) refl λ _.
+      refused-not (λ j. given (verdictFirst j (freeSlotFor m n r))) (decides-legal r) (λ k. k) (λ p k. k p) refl λ legal.
       refused-if given (decides-client m n) refl λ _.
       refused-if given (decides-pane-shared m v r legal) refl λ _.
       refused-if given (decides-full m) refl λ _.

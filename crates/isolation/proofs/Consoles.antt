@@ -16,14 +16,14 @@ use Rattle.block.specs.Block.{blockLength, blockFits, restored}
 use Rattle.block.proofs.Rows.{rows-agree}
 use Rattle.block.proofs.Restores.{restored-local}
 use Rattle.port.specs.declared.Port.{Port}
-use Rattle.port.specs.Valid.{Valid}
+use Rattle.port.specs.Valid.{ValidPort}
 use Rattle.port.proofs.Streams.{keeps-stream, stream-local}
 use Rattle.calls.specs.Calls.{PortReply, written, blockReturned, blockRestored}
 use Rattle.isolation.specs.Isolation.{Kind, callOnPort}
 use Rattle.isolation.specs.Isolation.Kind.{Write, Return, Restore}
 
 pub record Keeps (p : Port) (s : List ℕ) (r : PortReply) : Type 0 where
-  pub valid : Valid (r .state)
+  pub valid : ValidPort (r .state)
   pub home : r .state .home ≡ p .home
   pub len : length (r .screen) ≡ 1920
   pub outside : (i : ℕ) → (Inside (p .home) i → ⊥) → getD (r .screen) i 0 ≡ getD s i 0
@@ -40,7 +40,7 @@ pub record Alike (home : Rect) (a b : PortReply) : Type 0 where
 other-cells : (home : Rect) (r : PortReply) (t : List ℕ) → Agree home (r .screen) t → Alike home r (record { status = r .status; state = r .state; result = r .result; screen = t; block = r .block })
 other-cells home r t agree = record { status = refl; state = refl; result = refl; block = refl; cells = agree }
 
-module _ (p : Port) (v : Valid p) where
+module _ (p : Port) (v : ValidPort p) where
   -- a call that changes neither port nor screen
   idle : (s : List ℕ) (r : PortReply) → length s ≡ 1920 → r .state ≡ p → r .screen ≡ s → Keeps p s r
   idle s r l e c = record { valid = rw e v; home = rw e; len = rw c l; outside = λ i out. rw c }

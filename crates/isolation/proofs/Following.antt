@@ -9,8 +9,8 @@ use borrow.Author.Tests.{eqb-true, eqb-false}
 use Rattle.laws.proofs.Tests.{tested}
 use Rattle.rectangle.specs.Local.{Agree}
 use Rattle.port.specs.declared.Port.{Port}
-use Rattle.port.specs.Valid.{Valid}
-use Rattle.reply.specs.Numbers.{numberOf}
+use Rattle.port.specs.Valid.{ValidPort}
+use Rattle.reply.specs.Numbers.{statusNumber}
 use Rattle.calls.specs.Calls.{PortReply}
 use Rattle.slots.specs.declared.Slot.{Slot}
 use Rattle.slots.specs.declared.Multiplexer.{Multiplexer}
@@ -35,7 +35,7 @@ module _ (i n : ℕ) (small : i < 4) (is-open : n ≡ 0 → ⊥) where
     here : Open m i
     here = (small, rw e is-open)
 
-    port-valid : Valid p
+    port-valid : ValidPort p
     port-valid = rw e at (v .ports i here)
 
     reply : PortReply
@@ -55,7 +55,7 @@ module _ (i n : ℕ) (small : i < 4) (is-open : n ≡ 0 → ⊥) where
         record {
           slot = rw (o, e) (slot-set m v i small _ ∙ λ k. record { client = n; port = b .state k });
           cells = rw (o, e) (b .cells);
-          answer = rw (o, e) (λ k. record { number = numberOf (b .status k); count = b .result k; block = b .block k });
+          answer = rw (o, e) (λ k. record { number = statusNumber (b .status k); count = b .result k; block = b .block k });
         }
 
     -- a call of another

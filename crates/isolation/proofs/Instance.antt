@@ -20,7 +20,7 @@ use Rattle.charset.specs.Stored.{inRange, storedSymbol, storedCapital, storedHi
 use Rattle.port.specs.declared.Port.{Port}
 use Rattle.port.specs.State.{cursorAt, withView, freshPort}
 use Rattle.port.specs.Valid.{parameters}
-use Rattle.port.specs.Codes.{moveCursorRight, modeOf, storeCell, advanced, printByte, print}
+use Rattle.port.specs.Codes.{moveCursorRight, modeOf, storeCell, advance, printByte, print}
 use Rattle.port.specs.Step.{control, obey, step}
 use Rattle.port.specs.Stream.{stream}
 use Rattle.reply.specs.declared.Status.the-variants.{Done}
@@ -144,11 +144,11 @@ wroteIn home s bytes stored bells =
     }
 
 wrote-7 : (s : List ℕ) → written (freshPort leftPane) s (0x41 ∷ 0x07 ∷ []) ≡ wroteIn leftPane s (0x41 ∷ 0x07 ∷ []) 0x81 1
-unfolding wroteIn written draw stream step parameters control obey print printByte storeCell advanced moveCursorRight modeOf storedByte storedSymbol storedCapital storedHigh inRange
+unfolding wroteIn written draw stream step parameters control obey print printByte storeCell advance moveCursorRight modeOf storedByte storedSymbol storedCapital storedHigh inRange
 wrote-7 s = refl
 
 wrote-200 : (s : List ℕ) → written (freshPort rightPane) s (0x42 ∷ []) ≡ wroteIn rightPane s (0x42 ∷ []) 0x82 0
-unfolding wroteIn written draw stream step parameters obey print printByte storeCell advanced moveCursorRight modeOf storedByte storedSymbol storedCapital storedHigh inRange
+unfolding wroteIn written draw stream step parameters obey print printByte storeCell advance moveCursorRight modeOf storedByte storedSymbol storedCapital storedHigh inRange
 wrote-200 s = refl
 
 -- the number and the count of each answer to a client

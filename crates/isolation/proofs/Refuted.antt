@@ -13,7 +13,7 @@ use Rattle.port.specs.Valid.{parameters}
 use Rattle.port.specs.Step.{control, obey, step}
 use Rattle.port.specs.Stream.{stream}
 use Rattle.reply.specs.declared.Status.the-variants.{Done, NotOpen}
-use Rattle.reply.specs.Numbers.{numberOf}
+use Rattle.reply.specs.Numbers.{statusNumber}
 use Rattle.reply.specs.Reply.{refusal}
 use Rattle.calls.specs.Calls.{written, blockReturned, blockRestored}
 use Rattle.slots.specs.declared.Slot.{Slot}
@@ -126,5 +126,5 @@ not-swaps-blocks d =
     let returned = goes-to pair blankScreen (callBy 7 (Return [])) valid blank-length 0 left-open refl in
     let restored = goes-to pair blankScreen (callBy 7 (Restore [])) valid blank-length 0 left-open refl in
     let same = serves-calls .return pair blankScreen 7 [] in
-    let e : _≡_ {A = ℕ} 10 9 = ap (λ (r : MultiplexerReply). numberOf (r .status)) (sym restored ∙ d .return pair blankScreen 7 [] ∙ sym same ∙ returned) in
+    let e : _≡_ {A = ℕ} 10 9 = ap (λ (r : MultiplexerReply). statusNumber (r .status)) (sym restored ∙ d .return pair blankScreen 7 [] ∙ sym same ∙ returned) in
     omega arith

@@ -27,10 +27,10 @@ module _ {m : Multiplexer} {s : List ℕ} {n i : ℕ} (g : GoesTo m s n i) where
       let same = f .labels .client i in
       record { valid = f .valid; len = f .len; is-open = (g .is-open .0, λ e. g .is-open .1 (sym same ∙ e)); client = same ∙ g .client }
 
-pub next-call : {m : Multiplexer} {s : List ℕ} {n i : ℕ} (g : GoesTo m s n i) (first second : Kind)
+pub parse-call : {m : Multiplexer} {s : List ℕ} {n i : ℕ} (g : GoesTo m s n i) (first second : Kind)
     → serve (serve m s (callBy n first) .state) (serve m s (callBy n first) .screen) (callBy n second)
     ≡ relayed m i (callOnPort second (callOnPort first (slotAt m i .port) s .state) (callOnPort first (slotAt m i .port) s .screen))
-next-call {m} {s} {n} {i} g first second =
+parse-call {m} {s} {n} {i} g first second =
     let x : PortReply = callOnPort first (slotAt m i .port) s in
     one-call (still-goes g first) second
     ∙ ap (λ (r : MultiplexerReply). relayed (r .state) i (callOnPort second (slotAt (r .state) i .port) (r .screen))) (one-call g first)

@@ -5,7 +5,7 @@ use mathlib.Core.List.{List}
 use lib.ListN.{length, take}
 use Rattle.block.specs.Block.{blockLength}
 use Rattle.port.specs.declared.Port.{Port}
-use Rattle.port.specs.Valid.{Valid}
+use Rattle.port.specs.Valid.{ValidPort}
 use Rattle.reply.specs.declared.Status.the-variants.{Done}
 use Rattle.reply.specs.Laws.{RoundTrip}
 use Rattle.calls.specs.Calls.{PortReply}
@@ -32,7 +32,7 @@ pub round-trip : (m : Multiplexer) (s : List ℕ) (n i : ℕ) (block : List ℕ)
 unfolding serve
 round-trip m s n i block g room =
     let p : Port = slotAt m i .port in
-    let v : Valid p = g .valid .ports i (g .is-open) in
+    let v : ValidPort p = g .valid .ports i (g .is-open) in
     let out : PortReply = handedOut p s block v (g .len) room in
     let back : PortReply = putBack p s block v (g .len) room in
     let returned : returnCall m s n block ≡ stillAt m out = one-call g (Return block) ∙ ap (relayed m i) (handed-out p s block v (g .len) room) ∙ rw (port-again m i) in

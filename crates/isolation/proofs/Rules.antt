@@ -8,7 +8,7 @@ use mathlib.Core.List.{List, [], _∷_}
 use Rattle.laws.proofs.Tests.{tested, not-both, by-test, Decides}
 use Rattle.reply.specs.declared.Status.{Status}
 use Rattle.reply.specs.declared.Status.the-variants.{Done}
-use Rattle.reply.specs.Numbers.{numberOf}
+use Rattle.reply.specs.Numbers.{statusNumber}
 use Rattle.isolation.specs.Laws.{Each, Rising, Answers}
 
 -- the status of the first rule that applies, or Done
@@ -39,30 +39,30 @@ module _ {applies : Status → Type 0} {A : Type 0} (f : A → Status) {x : Stat
 
 -- ---- each status exactly then
 module _ (applies : Status → Type 0) (given : Status) where
-  above : (k : ℕ) {xs : List Status} → Rising k xs → First applies given xs → (given ≡ Done) ⊎ (k < numberOf given)
+  above : (k : ℕ) {xs : List Status} → Rising k xs → First applies given xs → (given ≡ Done) ⊎ (k < statusNumber given)
   above k r (none e) = inl e
-  above k r (here h e) = inr (omega (arith, ap numberOf e))
-  above k r (later {x} n f) = ⊎-elim inl (λ l. inr (omega arith)) (above (numberOf x) (r .1) f)
+  above k r (here h e) = inr (omega (arith, ap statusNumber e))
+  above k r (later {x} n f) = ⊎-elim inl (λ l. inr (omega arith)) (above (statusNumber x) (r .1) f)
 
   -- a smaller number is given
-  past : (None : Type 0) (k : ℕ) (xs : List Status) → Rising k xs → (None → ⊥) → 0 < numberOf given → numberOf given ≤ k → Each applies None xs given
-  past None k [] r n low high = record { only-when = λ e. absurd (omega (arith, ap numberOf e)); whenever = λ p. absurd (n p) }
+  past : (None : Type 0) (k : ℕ) (xs : List Status) → Rising k xs → (None → ⊥) → 0 < statusNumber given → statusNumber given ≤ k → Each applies None xs given
+  past None k [] r n low high = record { only-when = λ e. absurd (omega (arith, ap statusNumber e)); whenever = λ p. absurd (n p) }
   past None k (x ∷ xs) r n low high = (
-    record { only-when = λ e. absurd (omega (arith, ap numberOf e)); whenever = λ p. absurd (n (p .0)) },
-    past _ (numberOf x) xs (r .1) (λ p. n (p .0)) low (omega arith),
+    record { only-when = λ e. absurd (omega (arith, ap statusNumber e)); whenever = λ p. absurd (n (p .0)) },
+    past _ (statusNumber x) xs (r .1) (λ p. n (p .0)) low (omega arith),
   )
 
   each-from : (None : Type 0) (k : ℕ) {xs : List Status} → Rising k xs → None → First applies given xs → Each applies None xs given
   each-from None k r p (none e) = record { only-when = λ _. p; whenever = λ _. e }
   each-from None k r p (here {x} {xs} h e) =
-      let number = ap numberOf e in
-      (record { only-when = λ _. (p, h); whenever = λ _. e }, past _ (numberOf x) xs (r .1) (λ q. q .1 h) (omega arith) (omega arith))
+      let number = ap statusNumber e in
+      (record { only-when = λ _. (p, h); whenever = λ _. e }, past _ (statusNumber x) xs (r .1) (λ q. q .1 h) (omega arith) (omega arith))
   each-from None k r p (later {x} n f) = (
     record {
-      only-when = λ e. absurd (⊎-elim (λ d. omega (arith, ap numberOf (sym e ∙ d))) (λ l. omega (arith, ap numberOf e)) (above (numberOf x) (r .1) f));
+      only-when = λ e. absurd (⊎-elim (λ d. omega (arith, ap statusNumber (sym e ∙ d))) (λ l. omega (arith, ap statusNumber e)) (above (statusNumber x) (r .1) f));
       whenever = λ q. absurd (n (q .1));
     },
-    each-from _ (numberOf x) (r .1) (p, n) f,
+    each-from _ (statusNumber x) (r .1) (p, n) f,
   )
 
 pub answers-first : {applies : Status → Type 0} {given : Status} {xs : List Status} → Rising 0 xs → First applies given xs → Answers applies xs given

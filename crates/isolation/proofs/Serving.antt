@@ -7,7 +7,7 @@ use lib.ListN.{length, getD}
 use Rattle.laws.proofs.Tests.{by-test}
 use Rattle.rectangle.specs.Cells.{Inside}
 use Rattle.port.specs.declared.Port.{Port}
-use Rattle.port.specs.Valid.{Valid}
+use Rattle.port.specs.Valid.{ValidPort}
 use Rattle.reply.specs.declared.Status.the-variants.{NotOpen}
 use Rattle.reply.specs.Reply.{refusal}
 use Rattle.slots.specs.declared.Slot.{Slot}
@@ -29,7 +29,7 @@ pub record SameLabels (a b : Multiplexer) : Type 0 where
 
 -- another port of the same home in an open slot
 module _ (m : Multiplexer) (v : ValidMultiplexer m) (i : ℕ) (o : Open m i) (p : Port) (h : p .home ≡ pane m i) where
-  port-valid : Valid p → ValidMultiplexer (withPort m i p)
+  port-valid : ValidPort p → ValidMultiplexer (withPort m i p)
   port-valid k =
       set-valid m v i (o .0) _ (λ e. absurd (o .1 e), λ _. k)
       (λ j n u _. (λ e. n (v .clients j i u o e), λ c f g. v .panes j i u o n c f (rw h at g)))

@@ -9,7 +9,7 @@ use Rattle.rectangle.specs.Cells.{Inside}
 use Rattle.rectangle.specs.Local.{Agree}
 use Rattle.port.specs.declared.Port.{Port}
 use Rattle.reply.specs.declared.Status.{Status}
-use Rattle.reply.specs.Numbers.{numberOf}
+use Rattle.reply.specs.Numbers.{statusNumber}
 use Rattle.reply.specs.Reply.{Reply}
 use Rattle.calls.specs.Calls.{PortReply, written, blockReturned, blockRestored}
 use Rattle.slots.specs.declared.Multiplexer.{Multiplexer}
@@ -55,7 +55,7 @@ pub record Answer : Type 0 where
   pub block : List ℕ
 
 abbrev pub answerFrom : {State : Type 0} → Reply Status State ℕ → Answer
-answerFrom r = record { number = numberOf (r .status); count = r .result; block = r .block }
+answerFrom r = record { number = statusNumber (r .status); count = r .result; block = r .block }
 
 -- ---- the multiplexer, fed a list of calls
 -- what serves one call: `serve`, or another that is held to the same demand

@@ -9,7 +9,7 @@ use Rattle.rectangle.specs.Rectangles.{widthOf, heightOf, Legal}
 use Rattle.block.specs.Block.{blockLength}
 use Rattle.reply.specs.declared.Status.{Status}
 use Rattle.reply.specs.declared.Status.the-variants.{Done, ScreenLength, Invalid, ClientZero, PaneIllegal, ClientTaken, PaneShared, Full, NotOpen, BlockTooShort, BlockMismatch}
-use Rattle.reply.specs.Numbers.{numberOf}
+use Rattle.reply.specs.Numbers.{statusNumber}
 use Rattle.slots.specs.declared.Multiplexer.{Multiplexer}
 use Rattle.slots.specs.State.{slotAt, pane, Open, Free, Closed}
 use Rattle.slots.specs.Valid.{ValidMultiplexer}
@@ -62,7 +62,7 @@ Each applies NoneBefore (x ∷ xs) given = Exactly given x (NoneBefore × applie
 -- the statuses' numbers rise
 abbrev pub Rising : ℕ → List Status → Type 0
 Rising k [] = Unit {0}
-Rising k (x ∷ xs) = (k < numberOf x) × Rising (numberOf x) xs
+Rising k (x ∷ xs) = (k < statusNumber x) × Rising (statusNumber x) xs
 
 -- 'where several apply, the smallest number that the call can give is given'
 pub record Answers (applies : Status → Type 0) (can : List Status) (given : Status) : Type 0 where

@@ -7,20 +7,20 @@ use lib.Dec.{leb}
 use borrow.Author.Tests.{le-leb, lt-leb, eq-eqb, ne-eqb}
 use Rattle.laws.proofs.Choices.{answers}
 use Rattle.reply.specs.declared.Status.{Status}
-use Rattle.calls.specs.declared.Judged.{Judged}
-use Rattle.calls.specs.declared.Judged.the-variants as judged
+use Rattle.calls.specs.declared.Verdict.{Verdict}
+use Rattle.calls.specs.declared.Verdict.the-variants as verdict
 use Rattle.multiplexer.specs.declared.Located.{Located}
 use Rattle.multiplexer.specs.declared.Located.the-variants.{Refused, At}
-use Rattle.multiplexer.specs.Located.{judgedFirst}
+use Rattle.multiplexer.specs.Located.{verdictFirst}
 
 -- where a chain ends at a slot, or accepts, none of its tests refuses
 pub not-refused : (t : Bool) (status : Status) (rest : Located) {i : ℕ} → cond t (Refused status) rest ≡ At i → (t ≡ false) × (rest ≡ At i)
 not-refused true status rest e = absurd (let z : _≡_ {A = ℕ} 0 1 = cc in omega arith)
 not-refused false status rest e = (refl, e)
 
-pub not-judged : (t : Bool) (status : Status) (rest : Judged) → cond t (judged.Refused status) rest ≡ judged.Accepted → (t ≡ false) × (rest ≡ judged.Accepted)
-not-judged true status rest e = absurd (let z : _≡_ {A = ℕ} 0 1 = cc in omega arith)
-not-judged false status rest e = (refl, e)
+pub not-verdict : (t : Bool) (status : Status) (rest : Verdict) → cond t (verdict.Refused status) rest ≡ verdict.Accepted → (t ≡ false) × (rest ≡ verdict.Accepted)
+not-verdict true status rest e = absurd (let z : _≡_ {A = ℕ} 0 1 = cc in omega arith)
+not-verdict false status rest e = (refl, e)
 
 -- whether there is a free slot
 pub no-room : (i j : ℕ) → i ≡ j → 4 ≤ i → leb 4 j ≡ true
@@ -32,17 +32,17 @@ room i j e h = lt-leb 4 j (omega arith)
 pub ruleset chain = (answers, eq-eqb, ne-eqb, no-room, room)
 
 -- a judgement before it, by each way through it
-pub judged-refused : (j : Judged) (x : Located) (status : Status) → j ≡ judged.Refused status → Refused status ≡ judgedFirst j x
-unfolding judgedFirst
-judged-refused j x status e = rw e
+pub verdict-refused : (j : Verdict) (x : Located) (status : Status) → j ≡ verdict.Refused status → Refused status ≡ verdictFirst j x
+unfolding verdictFirst
+verdict-refused j x status e = rw e
 
-pub judged-accepted : (j : Judged) (x : Located) → j ≡ judged.Accepted → x ≡ judgedFirst j x
-unfolding judgedFirst
-judged-accepted j x e = rw e
+pub verdict-accepted : (j : Verdict) (x : Located) → j ≡ verdict.Accepted → x ≡ verdictFirst j x
+unfolding verdictFirst
+verdict-accepted j x e = rw e
 
-pub judged-at : (j : Judged) (x : Located) (i : ℕ) → judgedFirst j x ≡ At i → (j ≡ judged.Accepted) × (x ≡ At i)
-unfolding judgedFirst
-judged-at (judged.Refused status) x i e = absurd (let z : _≡_ {A = ℕ} 0 1 = cc in omega arith)
-judged-at judged.Accepted x i e = (refl, e)
+pub verdict-at : (j : Verdict) (x : Located) (i : ℕ) → verdictFirst j x ≡ At i → (j ≡ verdict.Accepted) × (x ≡ At i)
+unfolding verdictFirst
+verdict-at (verdict.Refused status) x i e = absurd (let z : _≡_ {A = ℕ} 0 1 = cc in omega arith)
+verdict-at verdict.Accepted x i e = (refl, e)
 
-pub ruleset judgings = (judged-refused, judged-accepted)
+pub ruleset verdicts = (verdict-refused, verdict-accepted)

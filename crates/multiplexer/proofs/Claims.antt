@@ -10,7 +10,7 @@ use Rattle.rectangle.specs.Cells.{Inside}
 use Rattle.rectangle.specs.Rectangles.{legal, Legal}
 use Rattle.rectangle.proofs.Rectangles.{decides-legal}
 use Rattle.rectangle.proofs.Overlaps.{Overlap, decides-overlap, cell-overlap, overlap-cell}
-use Rattle.calls.proofs.Judging.{accepted-by}
+use Rattle.calls.proofs.Verdicts.{accepted-by}
 use Rattle.slots.specs.declared.Multiplexer.{Multiplexer}
 use Rattle.slots.specs.State.{slotAt, pane, Open, slotOf, hasClient, Closed}
 use Rattle.slots.specs.Valid.{validMultiplexer, ValidMultiplexer}
@@ -18,8 +18,8 @@ use Rattle.slots.specs.Panes.{sharesPane, paneShared}
 use Rattle.slots.proofs.Validity.{decides-multiplexer}
 use Rattle.slots.proofs.Slots.{decides-client}
 use Rattle.multiplexer.specs.declared.Located.the-variants.{At}
-use Rattle.multiplexer.specs.Located.{multiplexerJudgement, claimJudgement, freeSlotFor, judgedFirst, claimSlot}
-use Rattle.multiplexer.proofs.Chains.{not-refused, not-judged, judged-at}
+use Rattle.multiplexer.specs.Located.{multiplexerVerdict, claimVerdict, freeSlotFor, verdictFirst, claimSlot}
+use Rattle.multiplexer.proofs.Chains.{not-refused, not-verdict, verdict-at}
 
 -- ---- a pane that shares a cell with an open one
 pub decides-pane-shared : (m : Multiplexer) → ValidMultiplexer m → (r : Rect) → Legal r
@@ -44,12 +44,12 @@ pub record Claims (m : Multiplexer) (n : ℕ) (r : Rect) : Type 0 where
 module _ (m : Multiplexer) (n : ℕ) (r : Rect) where
   -- none applies, and the place is that of the lowest free slot
   pub claims : (i : ℕ) → claimSlot m n r ≡ At i → Claims m n r × (i ≡ slotOf m 0)
-  unfolding multiplexerJudgement claimJudgement freeSlotFor
+  unfolding multiplexerVerdict claimVerdict freeSlotFor
   claims i e =
-      let a = judged-at (multiplexerJudgement m) _ i e in
-      let b = judged-at (claimJudgement n r) _ i (a .1) in
-      let zero = not-judged (eqb n 0) _ _ (b .0) in
-      let illegal = not-judged (not (legal r)) _ _ (zero .1) in
+      let a = verdict-at (multiplexerVerdict m) _ i e in
+      let b = verdict-at (claimVerdict n r) _ i (a .1) in
+      let zero = not-verdict (eqb n 0) _ _ (b .0) in
+      let illegal = not-verdict (not (legal r)) _ _ (zero .1) in
       let taken = not-refused (hasClient m n) _ _ (b .1) in
       let shared = not-refused (paneShared m r) _ _ (taken .1) in
       let full = not-refused (leb 4 (slotOf m 0)) _ _ (shared .1) in
@@ -67,7 +67,7 @@ module _ (m : Multiplexer) (n : ℕ) (r : Rect) where
       )
 
   pub claims-lowest : Claims m n r → claimSlot m n r ≡ At (slotOf m 0)
-  unfolding judgedFirst multiplexerJudgement claimJudgement freeSlotFor
+  unfolding verdictFirst multiplexerVerdict claimVerdict freeSlotFor
   claims-lowest o =
       simp (
         decides-multiplexer m .passes (o .valid),

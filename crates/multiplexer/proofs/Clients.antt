@@ -5,28 +5,28 @@ use mathlib.Core.Bool.{not}
 use lib.Dec.{ltb, eqb}
 use borrow.Author.Tests.{not-true, not-false, eqb-false, ltb-true}
 use Rattle.laws.proofs.Tests.{and-left, and-right, fails}
-use Rattle.port.specs.Valid.{Valid}
+use Rattle.port.specs.Valid.{ValidPort}
 use Rattle.reply.specs.declared.Status.the-variants.{Invalid, NotOpen}
-use Rattle.calls.proofs.Judging.{accepted-by}
+use Rattle.calls.proofs.Verdicts.{accepted-by}
 use Rattle.slots.specs.declared.Multiplexer.{Multiplexer}
 use Rattle.slots.specs.State.{slotAt, Open, Closed, slotOf, hasClient}
 use Rattle.slots.specs.Valid.{validMultiplexer, ValidMultiplexer}
 use Rattle.slots.proofs.Validity.{decides-multiplexer}
 use Rattle.slots.proofs.Slots.{decides-client, slot-client, slot-open}
 use Rattle.multiplexer.specs.declared.Located.the-variants.{Refused, At}
-use Rattle.multiplexer.specs.Located.{multiplexerJudgement, openSlot, judgedFirst, clientSlot}
-use Rattle.multiplexer.proofs.Chains.{not-refused, judged-at}
+use Rattle.multiplexer.specs.Located.{multiplexerVerdict, openSlot, verdictFirst, clientSlot}
+use Rattle.multiplexer.proofs.Chains.{not-refused, verdict-at}
 
 -- a slot that was found is open, with a valid port
 pub record Found (m : Multiplexer) (i : ℕ) : Type 0 where
   pub below : i < 4
-  pub port : Valid (slotAt m i .port)
+  pub port : ValidPort (slotAt m i .port)
 
 module _ (m : Multiplexer) (n : ℕ) where
   pub found : (i : ℕ) → clientSlot m n ≡ At i → Found m i
-  unfolding multiplexerJudgement openSlot hasClient
+  unfolding multiplexerVerdict openSlot hasClient
   found i e =
-      let a = judged-at (multiplexerJudgement m) _ i e in
+      let a = verdict-at (multiplexerVerdict m) _ i e in
       let b = not-refused (not (hasClient m n)) _ _ (a .1) in
       let has = not-false (hasClient m n) (b .0) in
       let place : slotOf m n ≡ i = (let at = b .1 in cc) in
@@ -36,15 +36,15 @@ module _ (m : Multiplexer) (n : ℕ) where
       rw (← place) (record { below = below; port = v .ports (slotOf m n) (below, λ z. named (sym (slot-client m n below) ∙ z)) })
 
   pub invalid-refused : (ValidMultiplexer m → ⊥) → clientSlot m n ≡ Refused Invalid
-  unfolding judgedFirst multiplexerJudgement openSlot
+  unfolding verdictFirst multiplexerVerdict openSlot
   invalid-refused w = simp (fails (decides-multiplexer m) w)
 
   module _ (v : ValidMultiplexer m) where
     -- a client with an open slot, and one with none
     pub goes-to-slot : (i : ℕ) → Open m i → slotAt m i .client ≡ n → clientSlot m n ≡ At i
-    unfolding judgedFirst multiplexerJudgement openSlot
+    unfolding verdictFirst multiplexerVerdict openSlot
     goes-to-slot i o e = simp (decides-multiplexer m .passes v, decides-client m n .passes (i, o, e), slot-open m v i n o e)
 
     pub goes-nowhere : Closed m n → clientSlot m n ≡ Refused NotOpen
-    unfolding judgedFirst multiplexerJudgement openSlot
+    unfolding verdictFirst multiplexerVerdict openSlot
     goes-nowhere h = simp (decides-multiplexer m .passes v, fails (decides-client m n) (λ k. h (k .0) (k .1) (k .2)))

@@ -14,38 +14,38 @@ use Rattle.rectangle.proofs.Rectangles.{legal-on-screen}
 use Rattle.screen.proofs.Sizes.{decides-screen}
 use Rattle.port.specs.declared.Port.{Port}
 use Rattle.port.specs.State.{zeroPort, freshPort}
-use Rattle.port.specs.Valid.{Valid}
+use Rattle.port.specs.Valid.{ValidPort}
 use Rattle.reply.specs.declared.Status.{Status}
 use Rattle.reply.specs.declared.Status.the-variants.{Done, ScreenLength}
 use Rattle.reply.specs.Reply.{refusal, Replies}
 use Rattle.calls.specs.declared.Answer as calls
-use Rattle.calls.specs.Judging.{screenJudgement}
+use Rattle.calls.specs.Verdict.{screenVerdict}
 use Rattle.calls.specs.Calls.{PortCall}
-use Rattle.calls.proofs.Judging.{on-screen, off-screen, screen-accepted}
+use Rattle.calls.proofs.Verdicts.{on-screen, off-screen, screen-accepted}
 use Rattle.slots.specs.declared.Slot.{Slot}
 use Rattle.slots.specs.declared.Multiplexer.{Multiplexer}
 use Rattle.slots.specs.State.{newSlot, freeSlot, slotAt, withSlot, withPort}
 use Rattle.multiplexer.specs.declared.Answer.{Answer}
 use Rattle.multiplexer.specs.declared.Located.{Located}
 use Rattle.multiplexer.specs.declared.Located.the-variants.{Refused, At}
-use Rattle.multiplexer.specs.Located.{judgedFirst, clientSlot, claimSlot, locatedOn}
+use Rattle.multiplexer.specs.Located.{verdictFirst, clientSlot, claimSlot, locatedOn}
 use Rattle.multiplexer.specs.Calls.{MultiplexerReply, onSlot, relayed, onClient, openedAt, openCall, closedAt, closeCall, answerOf}
-use Rattle.multiplexer.proofs.Chains.{judged-at}
+use Rattle.multiplexer.proofs.Chains.{verdict-at}
 use Rattle.multiplexer.proofs.Claims.{claims}
 use Rattle.multiplexer.proofs.Clients.{found}
 
 -- ---- where a call goes
 -- with 1,920 cells where it goes without a screen, and otherwise nowhere
 pub located-on : (s : List ℕ) (located : Located) → length s ≡ 1920 → locatedOn (length s) located ≡ located
-unfolding judgedFirst
+unfolding verdictFirst
 located-on s located len = rw (on-screen (length s) len)
 
 pub located-off : (s : List ℕ) (located : Located) → (length s ≡ 1920 → ⊥) → locatedOn (length s) located ≡ Refused ScreenLength
-unfolding judgedFirst
+unfolding verdictFirst
 located-off s located no-screen = rw (off-screen (length s) no-screen)
 
 pub located-at : (s : List ℕ) (located : Located) (i : ℕ) → locatedOn (length s) located ≡ At i → (length s ≡ 1920) × (located ≡ At i)
-located-at s located i e = let k = judged-at (screenJudgement (length s)) located i e in (screen-accepted (length s) (k .0), k .1)
+located-at s located i e = let k = verdict-at (screenVerdict (length s)) located i e in (screen-accepted (length s) (k .0), k .1)
 
 -- ---- the reply, by where the call goes
 module _ (m : Multiplexer) (s block : List ℕ) (reply : ℕ → MultiplexerReply) where
@@ -111,7 +111,7 @@ module _ (m : Multiplexer) (s : List ℕ) (n : ℕ) (j y : Located) (on : y ≡ 
     pub place-below : (i : ℕ) → y ≡ At i → i < 4
     place-below i e = found m n i (sym is ∙ slot-found i e) .below
 
-    pub place-port : (i : ℕ) (p : Port) → y ≡ At i → p ≡ slotAt m i .port → Valid p
+    pub place-port : (i : ℕ) (p : Port) → y ≡ At i → p ≡ slotAt m i .port → ValidPort p
     place-port i p e at = rw at (found m n i (sym is ∙ slot-found i e) .port)
 
     pub replies-relayed : (call : PortCall) (block : List ℕ) (i : ℕ) (p : Port) (x : calls.Answer) (a : Answer) (t after : List ℕ) → y ≡ At i → p ≡ slotAt m i .port

@@ -5,9 +5,9 @@ use lib.Dec.{leb, eqb}
 use Rattle.rectangle.specs.declared.Rect.{Rect}
 use Rattle.rectangle.specs.Rectangles.{legal}
 use Rattle.reply.specs.declared.Status.the-variants.{Invalid, ClientZero, PaneIllegal, ClientTaken, PaneShared, Full, NotOpen}
-use Rattle.calls.specs.declared.Judged.{Judged}
-use Rattle.calls.specs.declared.Judged.the-variants as judged
-use Rattle.calls.specs.Judging.{screenJudgement}
+use Rattle.calls.specs.declared.Verdict.{Verdict}
+use Rattle.calls.specs.declared.Verdict.the-variants as verdict
+use Rattle.calls.specs.Verdict.{screenVerdict}
 use Rattle.slots.specs.declared.Multiplexer.{Multiplexer}
 use Rattle.slots.specs.State.{slotOf, hasClient}
 use Rattle.slots.specs.Valid.{validMultiplexer}
@@ -16,15 +16,15 @@ use Rattle.multiplexer.specs.declared.Located.{Located}
 use Rattle.multiplexer.specs.declared.Located.the-variants.{Refused, At}
 
 -- 2 if 'the .. wall handed in is not sound'
-unfoldable pub multiplexerJudgement : Multiplexer → Judged
-multiplexerJudgement m = cond (validMultiplexer m) judged.Accepted (judged.Refused Invalid)
+unfoldable pub multiplexerVerdict : Multiplexer → Verdict
+multiplexerVerdict m = cond (validMultiplexer m) verdict.Accepted (verdict.Refused Invalid)
 
 -- 3 if 'opening with bench number 0', 4 if 'opening with a pane that is not legal'
-unfoldable pub claimJudgement : ℕ → Rect → Judged
-claimJudgement n pane =
-    cond (eqb n 0) (judged.Refused ClientZero)
-    (cond (not (legal pane)) (judged.Refused PaneIllegal)
-    judged.Accepted)
+unfoldable pub claimVerdict : ℕ → Rect → Verdict
+claimVerdict n pane =
+    cond (eqb n 0) (verdict.Refused ClientZero)
+    (cond (not (legal pane)) (verdict.Refused PaneIllegal)
+    verdict.Accepted)
 
 -- 5 if 'opening with a number that is open already', 6 if 'opening with a pane that shares a cell with an open pane', 7 if 'opening while four seats are open', and else 'the lowest free seat'
 unfoldable pub freeSlotFor : Multiplexer → ℕ → Rect → Located
@@ -39,18 +39,18 @@ unfoldable pub openSlot : Multiplexer → ℕ → Located
 openSlot m n = cond (not (hasClient m n)) (Refused NotOpen) (At (slotOf m n))
 
 -- a judgement first, and where it refuses nothing, where the call goes
-unfoldable pub judgedFirst : Judged → Located → Located
-judgedFirst (judged.Refused status) located = Refused status
-judgedFirst judged.Accepted located = located
+unfoldable pub verdictFirst : Verdict → Located → Located
+verdictFirst (verdict.Refused status) located = Refused status
+verdictFirst verdict.Accepted located = located
 
 -- a call for an open client: 2, then 8
 abbrev pub clientSlot : Multiplexer → ℕ → Located
-clientSlot m n = judgedFirst (multiplexerJudgement m) (openSlot m n)
+clientSlot m n = verdictFirst (multiplexerVerdict m) (openSlot m n)
 
 -- a claim of a slot: 2, then 3 to 7
 abbrev pub claimSlot : Multiplexer → ℕ → Rect → Located
-claimSlot m n pane = judgedFirst (multiplexerJudgement m) (judgedFirst (claimJudgement n pane) (freeSlotFor m n pane))
+claimSlot m n pane = verdictFirst (multiplexerVerdict m) (verdictFirst (claimVerdict n pane) (freeSlotFor m n pane))
 
 -- 1 before them, of a call that takes a screen
 abbrev pub locatedOn : ℕ → Located → Located
-locatedOn size located = judgedFirst (screenJudgement size) located
+locatedOn size located = verdictFirst (screenVerdict size) located

@@ -1,8 +1,8 @@
 // The wall of paper 01: one screen shared by up to four consoles, each in a pane of its own. This is what a host calls.
 // No public function has a `requires`: every input, refused or not, has its equation. No answer names a slot's place.
 // A call is judged here and made in `calls`, on the port of the client's slot.
-use calls::Judged;
-use calls::screen_judgement;
+use calls::Verdict;
+use calls::screen_verdict;
 use port::state::fresh_port;
 use port::state::zero_port;
 use rectangle::Rect;
@@ -10,9 +10,9 @@ use rectangle::legal;
 use reply::Status;
 use screen::clear;
 use slots::Multiplexer;
-use slots::lookup::find_client;
 use slots::lookup::has_client;
 use slots::lookup::pane_shared;
+use slots::lookup::slot_of;
 use slots::new_slot;
 use slots::port_at;
 use slots::valid::valid_multiplexer;
@@ -23,7 +23,7 @@ ghost use Prim.Native.Nat.{_<_};
 ghost use mathlib.Core.List.{[]};
 ghost use Rattle.reply.specs.Reply.{Replies};
 ghost use Rattle.slots.specs.State.{freshMultiplexer, withPort};
-ghost use Rattle.multiplexer.specs.Located.{multiplexerJudgement, claimJudgement, freeSlotFor, openSlot, judgedFirst, clientSlot, claimSlot, locatedOn};
+ghost use Rattle.multiplexer.specs.Located.{multiplexerVerdict, claimVerdict, freeSlotFor, openSlot, verdictFirst, clientSlot, claimSlot, locatedOn};
 ghost use Rattle.multiplexer.specs.Calls.{writeCall, returnCall, restoreCall, openCall, closeCall, answerOf};
 
 // What a call hands back: the status, the multiplexer, and the count of bells or of bytes.
@@ -58,26 +58,26 @@ enum Located {
 }
 
 // Refusal 2.
-fn judge(m: Multiplexer) -> Judged
-    ensures { λ r. ⌜ r ≡ multiplexerJudgement m ⌝ }
+fn multiplexer_verdict(m: Multiplexer) -> Verdict
+    ensures { λ r. ⌜ r ≡ multiplexerVerdict m ⌝ }
 {
     if valid_multiplexer(m) {
-        return Judged::Accepted;
+        return Verdict::Accepted;
     }
-    Judged::Refused(Status::Invalid)
+    Verdict::Refused(Status::Invalid)
 }
 
 // Refusals 3 and 4, by what a claim asks for.
-fn judge_claim(client: u8, pane: Rect) -> Judged
-    ensures { λ r. ⌜ r ≡ claimJudgement client pane ⌝ }
+fn claim_verdict(client: u8, pane: Rect) -> Verdict
+    ensures { λ r. ⌜ r ≡ claimVerdict client pane ⌝ }
 {
     if client == 0 {
-        return Judged::Refused(Status::ClientZero);
+        return Verdict::Refused(Status::ClientZero);
     }
     if !legal(pane) {
-        return Judged::Refused(Status::PaneIllegal);
+        return Verdict::Refused(Status::PaneIllegal);
     }
-    Judged::Accepted
+    Verdict::Accepted
 }
 
 // Refusals 5 to 7, by what is open, and else the lowest free slot.
@@ -90,7 +90,7 @@ fn free_slot_for(m: Multiplexer, client: u8, pane: Rect) -> Located
     if pane_shared(m, pane) {
         return Located::Refused(Status::PaneShared);
     }
-    let lowest = find_client(m, 0);
+    let lowest = slot_of(m, 0);
     if 4 <= lowest {
         return Located::Refused(Status::Full);
     }
@@ -104,16 +104,16 @@ fn open_slot(m: Multiplexer, client: u8) -> Located
     if !has_client(m, client) {
         return Located::Refused(Status::NotOpen);
     }
-    Located::At(find_client(m, client))
+    Located::At(slot_of(m, client))
 }
 
 // A judgement first, and where it refuses nothing, where the call goes.
-fn judged_first(judged: Judged, located: Located) -> Located
-    ensures { λ r. ⌜ r ≡ judgedFirst judged located ⌝ }
+fn verdict_first(verdict: Verdict, located: Located) -> Located
+    ensures { λ r. ⌜ r ≡ verdictFirst verdict located ⌝ }
 {
-    match judged {
-        Judged::Refused(status) => Located::Refused(status),
-        Judged::Accepted => located,
+    match verdict {
+        Verdict::Refused(status) => Located::Refused(status),
+        Verdict::Accepted => located,
     }
 }
 
@@ -121,22 +121,22 @@ fn judged_first(judged: Judged, located: Located) -> Located
 fn client_slot(m: Multiplexer, client: u8) -> Located
     ensures { λ r. ⌜ r ≡ clientSlot m client ⌝ }
 {
-    judged_first(judge(m), open_slot(m, client))
+    verdict_first(multiplexer_verdict(m), open_slot(m, client))
 }
 
 // Refusal 2, then 3 to 7.
 fn claim_slot(m: Multiplexer, client: u8, pane: Rect) -> Located
     ensures { λ r. ⌜ r ≡ claimSlot m client pane ⌝ }
 {
-    let asked = judged_first(judge_claim(client, pane), free_slot_for(m, client, pane));
-    judged_first(judge(m), asked)
+    let asked = verdict_first(claim_verdict(client, pane), free_slot_for(m, client, pane));
+    verdict_first(multiplexer_verdict(m), asked)
 }
 
 // Refusal 1 before them.
 fn located_on(length: usize, located: Located) -> Located
     ensures { λ r. ⌜ r ≡ locatedOn length located ⌝ }
 {
-    judged_first(screen_judgement(length), located)
+    verdict_first(screen_verdict(length), located)
 }
 
 // What a call on the port of slot i answered.

@@ -6,8 +6,9 @@ use mathlib.Core.List.{List, [], _∷_}
 use native.Mathlib.Nat.{zero-add}
 use native.Mathlib.Omega.{arith}
 use lib.Dec.{T, ltb, eqb, ltb→lt}
-use borrow.Author.Tests.{eqb-true, ltb-false, ne-eqb}
+use borrow.Author.Tests.{eqb-true, ltb-false, leb-true, ne-eqb}
 use Rattle.laws.proofs.Tests.{by-test}
+use Rattle.charset.specs.Stored.{isPrinting, Printing}
 use Rattle.port.specs.declared.Port.{Port}
 use Rattle.port.specs.Valid.{parameters}
 use Rattle.port.specs.Step.{Outcome, becomesPort, gatherOne, pop, control, obey, perform, parameter, step}
@@ -76,14 +77,15 @@ module _ (p : Port) (code : ℕ) where
       record { rung = simp n07; waits = simp (n02, n05, n06, n10, n14, n15, n1e); rest = λ _ _. kept refl refl refl }
 
   -- a printing code is no control code
-  other : ltb code 32 ≡ false → (k : ℕ) → T (ltb k 32) → eqb code k ≡ false
-  other large k small = let h : 32 ≤ code = ltb-false code 32 large in let below : k < 32 = ltb→lt k 32 small in ne-eqb code k (λ e. omega arith)
+  other : isPrinting code ≡ true → (k : ℕ) → T (ltb k 32) → eqb code k ≡ false
+  other large k small = let h : Printing code = leb-true 32 code large in let below : k < 32 = ltb→lt k 32 small in ne-eqb code k (λ e. omega arith)
 
   obeyed : Obeyed (obey p code)
   unfolding obey parameters
   obeyed =
-      by-test Obeyed (ltb code 32) (λ _. controlled)
+      by-test Obeyed (isPrinting code)
       (λ large. let no = other large in record { rung = simp (no 7 tt); waits = simp (no 0x02 tt, no 0x05 tt, no 0x06 tt, no 0x10 tt, no 0x14 tt, no 0x15 tt, no 0x1e tt); rest = λ _ _. kept refl refl refl })
+      (λ _. controlled)
 
 -- a parameter rings nothing, and touches nothing that is saved
 record Quiet (p : Port) (w : Wait) (m : Outcome) : Type 0 where

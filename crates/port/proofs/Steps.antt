@@ -11,16 +11,17 @@ use lib.Seq.{getD-set-other}
 use borrow.Author.Tests.{ltb-true}
 use Rattle.laws.proofs.Tests.{by-test}
 use Rattle.rectangle.specs.declared.Motion.the-variants.{Up, Down}
+use Rattle.charset.specs.Stored.{isPrinting}
 use Rattle.port.specs.declared.Port.{Port}
 use Rattle.port.specs.State.{noParameters, withSaved, defaultView}
-use Rattle.port.specs.Valid.{parameters, usedOrZero, unusedZero, countFits, validWait, ValidView, ValidWait, Valid}
+use Rattle.port.specs.Valid.{parameters, usedOrZero, unusedZero, countFits, validWait, ValidView, ValidWait, ValidPort}
 use Rattle.port.specs.Effect.{Effect}
 use Rattle.port.specs.Step.{becomesPort, onView, pushAndReset, pop, waitFor, control, obey, perform, parameter, step}
 use Rattle.port.specs.Keeps.{KeepsView, KeepsPort}
 use Rattle.port.proofs.Validity.{no-parameters, view-valid, saved-valid, wait-valid, default-valid, none-waits, decides-wait}
 use Rattle.port.proofs.Views.{keeps-right, keeps-print, keeps-line-start, keeps-line-end, keeps-clear-line, keeps-clear-port, keeps-port-start, keeps-port-end, keeps-horizontal-scroll, keeps-vertical, keeps-horizontal, keeps-goto, keeps-backspace, keeps-line-feed, keeps-return, keeps-modes, keeps-flags, keeps-home-cursor, keeps-moves, keeps-up, keeps-dle, size-valid}
 
-module _ (p : Port) (h : Valid p) where
+module _ (p : Port) (h : ValidPort p) where
   -- what keeps the view keeps the port
   keeps-view : (e : Effect) → KeepsView (p .home) (p .view) e → KeepsPort p (onView p e)
   keeps-view e k = record { valid = view-valid p h (e .view) (k .view); home = refl; edits = k .edits }
@@ -48,12 +49,12 @@ module _ (p : Port) (h : Valid p) where
   keeps-wait code k = record { valid = wait-valid p h code noParameters 0 k; home = refl; edits = tt }
 
 -- a command with its last parameter: none waits any more
-keeps-performed : (p : Port) → Valid p → (e : Effect) → KeepsView (p .home) (p .view) e → KeepsPort p (onView (waitFor p 0) e)
+keeps-performed : (p : Port) → ValidPort p → (e : Effect) → KeepsView (p .home) (p .view) e → KeepsPort p (onView (waitFor p 0) e)
 keeps-performed p h e k =
     let m = keeps-view (waitFor p 0) (wait-valid p h 0 noParameters 0 none-waits) e k in
     record { valid = m .valid; home = refl; edits = m .edits }
 
-keeps-control : (p : Port) → Valid p → (code : ℕ) → KeepsPort p (control p code)
+keeps-control : (p : Port) → ValidPort p → (code : ℕ) → KeepsPort p (control p code)
 unfolding control parameters validWait countFits unusedZero usedOrZero
 keeps-control p h code =
     by-test (KeepsPort p) (eqb code 0x00) (λ _. keeps-idle p h) λ _.
@@ -89,11 +90,11 @@ keeps-control p h code =
     by-test (KeepsPort p) (eqb code 0x1e) (λ _. keeps-wait p h 0x1e (decides-wait 0x1e noParameters 0 .holds refl)) λ _.
     keeps-view p h _ (keeps-up (p .home) (p .view) (h .view))
 
-keeps-obey : (p : Port) → Valid p → (code : ℕ) → KeepsPort p (obey p code)
+keeps-obey : (p : Port) → ValidPort p → (code : ℕ) → KeepsPort p (obey p code)
 unfolding obey
-keeps-obey p h code = by-test (KeepsPort p) (ltb code 32) (λ _. keeps-control p h code) (λ _. keeps-view p h _ (keeps-print (p .home) (p .view) (h .view) code))
+keeps-obey p h code = by-test (KeepsPort p) (isPrinting code) (λ _. keeps-view p h _ (keeps-print (p .home) (p .view) (h .view) code)) (λ _. keeps-control p h code)
 
-keeps-perform : (p : Port) → Valid p → (code b : ℕ) → KeepsPort p (perform p code b)
+keeps-perform : (p : Port) → ValidPort p → (code b : ℕ) → KeepsPort p (perform p code b)
 unfolding perform
 keeps-perform p h code b =
     let first : ℕ = getD (p .gathered) 0 0 in
@@ -115,7 +116,7 @@ gathers code gathered count b w some more = record {
   unused = λ i small past. getD-set-other gathered count i b 0 (omega arith) ∙ w .unused i small (omega arith);
 }
 
-keeps-parameter : (p : Port) → Valid p → (b : ℕ) → 0 < parameters (p .waiting) → KeepsPort p (parameter p b)
+keeps-parameter : (p : Port) → ValidPort p → (b : ℕ) → 0 < parameters (p .waiting) → KeepsPort p (parameter p b)
 unfolding parameter
 keeps-parameter p h b some =
     by-test (KeepsPort p) (ltb (p .count + 1) (parameters (p .waiting)))
@@ -126,6 +127,6 @@ keeps-parameter p h b some =
     })
     (λ _. keeps-perform p h (p .waiting) b)
 
-pub keeps-step : (p : Port) → Valid p → (b : ℕ) → KeepsPort p (step p b)
+pub keeps-step : (p : Port) → ValidPort p → (b : ℕ) → KeepsPort p (step p b)
 unfolding step
 keeps-step p h b = by-test (KeepsPort p) (ltb 0 (parameters (p .waiting))) (λ t. keeps-parameter p h b (ltb-true _ _ t)) (λ _. keeps-obey p h b)

@@ -9,7 +9,7 @@ use Rattle.rectangle.specs.Edit.{draw}
 use Rattle.rectangle.specs.Local.{Local, AllWithin}
 use Rattle.rectangle.proofs.Local.{all-append, all-widen, draw-append, draw-local}
 use Rattle.port.specs.declared.Port.{Port}
-use Rattle.port.specs.Valid.{Valid}
+use Rattle.port.specs.Valid.{ValidPort}
 use Rattle.port.specs.Step.{Outcome, step}
 use Rattle.port.specs.Stream.{followedBy, stream}
 use Rattle.port.specs.Keeps.{KeepsHome}
@@ -33,12 +33,12 @@ pub cells-cut : (p : Port) (a b s : List ℕ) → draw (stream p (a ++ b) .edits
 cells-cut p a b s = ap (λ (m : Outcome). draw (m .edits) s) (stream-cut p a b) ∙ draw-append (stream p a .edits) (stream (stream p a .port) b .edits) s
 
 -- the edits of a byte lie inside the viewport and so inside home
-pub step-home : (p : Port) → Valid p → (b : ℕ) → KeepsHome p (step p b)
+pub step-home : (p : Port) → ValidPort p → (b : ℕ) → KeepsHome p (step p b)
 step-home p h b =
     let k = keeps-step p h b in
     record { valid = k .valid; home = k .home; edits = all-widen (p .view .viewport) (p .home) (omega arith) (omega arith) (omega arith) (omega arith) (step p b .edits) (k .edits) }
 
-pub keeps-stream : (p : Port) → Valid p → (bs : List ℕ) → KeepsHome p (stream p bs)
+pub keeps-stream : (p : Port) → ValidPort p → (bs : List ℕ) → KeepsHome p (stream p bs)
 unfolding stream
 keeps-stream p h [] = record { valid = h; home = refl; edits = tt }
 keeps-stream p h (b ∷ bs) =
@@ -51,8 +51,8 @@ keeps-stream p h (b ∷ bs) =
     }
 
 -- so a byte changes no cell outside the viewport, and a stream none outside home; what they leave there depends only on what was there
-pub step-local : (p : Port) → Valid p → (b : ℕ) → Local (p .view .viewport) (draw (step p b .edits))
+pub step-local : (p : Port) → ValidPort p → (b : ℕ) → Local (p .view .viewport) (draw (step p b .edits))
 step-local p h b = draw-local (p .view .viewport) (h .view .legal .right-in) (h .view .legal .bottom-in) (step p b .edits) (keeps-step p h b .edits)
 
-pub stream-local : (p : Port) → Valid p → (bs : List ℕ) → Local (p .home) (draw (stream p bs .edits))
+pub stream-local : (p : Port) → ValidPort p → (bs : List ℕ) → Local (p .home) (draw (stream p bs .edits))
 stream-local p h bs = draw-local (p .home) (h .home .right-in) (h .home .bottom-in) (stream p bs .edits) (keeps-stream p h bs .edits)

@@ -16,7 +16,7 @@ use Rattle.port.specs.declared.Flags.{Flags}
 use Rattle.port.specs.declared.View.{View}
 use Rattle.port.specs.declared.Port.{Port}
 use Rattle.port.specs.State.{allFlags, zeroView, noParameters, zeroPort, cursorAt, withFlags, withModes, withViewport, withView, withSaved, withWait, defaultView, freshPort}
-use Rattle.port.specs.Valid.{cursorInside, validView, ValidView, noFlags, isZeroView, validSaved, parameters, usedOrZero, unusedZero, countFits, validWait, ValidWait, valid, Valid, isZeroPort, ZeroPort}
+use Rattle.port.specs.Valid.{cursorInside, validView, ValidView, isZeroFlags, isZeroView, validSaved, parameters, usedOrZero, unusedZero, countFits, validWait, ValidWait, validPort, ValidPort, isZeroPort, ZeroPort}
 
 pub decides-view : (home : Rect) (v : View) → Decides (validView home v) (ValidView home v)
 unfolding validView cursorInside
@@ -35,9 +35,9 @@ decides-view home v =
     })
     (λ h. ((h .legal, omega arith), ((h .from-left, h .to-right), (h .from-top, h .to-bottom))))
 
-decides-no-flags : (f : Flags) → Decides (noFlags f) (f ≡ allFlags false)
-unfolding noFlags
-decides-no-flags f =
+decides-is-zero-flags : (f : Flags) → Decides (isZeroFlags f) (f ≡ allFlags false)
+unfolding isZeroFlags
+decides-is-zero-flags f =
     decides-as
     (decides-both (decides-both (decides-both (decides-off _) (decides-off _)) (decides-both (decides-off _) (decides-off _))) (decides-off _))
     (λ k i. record { dle = k .0 .0 .0 i; scroll = k .0 .0 .1 i; wrap = k .0 .1 .0 i; lf = k .0 .1 .1 i; advance = k .1 i })
@@ -52,7 +52,7 @@ unfolding isZeroView zeroView
 decides-zero-view v =
     decides-as
     (decides-both (decides-both (decides-zero-rect _) (decides-both (decides-eq _ _) (decides-eq _ _)))
-    (decides-both (decides-no-flags _) (decides-both (decides-off _) (decides-off _))))
+    (decides-both (decides-is-zero-flags _) (decides-both (decides-off _) (decides-off _))))
     (λ k i. withModes (withFlags (cursorAt (withViewport v (k .0 .0 i)) (k .0 .1 .0 i) (k .0 .1 .1 i)) (k .1 .0 i)) (k .1 .1 .0 i) (k .1 .1 .1 i))
     (λ e. (
       (ap (λ (x : View). x .viewport) e, (ap (λ (x : View). x .column) e, ap (λ (x : View). x .line) e)),
@@ -89,8 +89,8 @@ decides-wait code gathered count =
     })
     (λ h. ((λ e. h .none (eqb-true code 0 e), λ e. h .fewer (⊎-elim (λ z. absurd (eqb-false code 0 e z)) (λ k. k) (h .known))), h .unused))
 
-pub decides-valid : (p : Port) → Decides (valid p) (Valid p)
-unfolding valid Saved
+pub decides-valid : (p : Port) → Decides (validPort p) (ValidPort p)
+unfolding validPort Saved
 decides-valid p =
     decides-as
     (decides-both (decides-both (decides-legal (p .home)) (decides-view (p .home) (p .view)))
@@ -99,18 +99,18 @@ decides-valid p =
     (λ h. ((h .home, h .view), ((h .saved, h .unsaved), h .wait)))
 
 -- the viewport of a valid port lies on the screen
-pub viewport-on-screen : (p : Port) → Valid p → OnScreen (p .view .viewport)
+pub viewport-on-screen : (p : Port) → ValidPort p → OnScreen (p .view .viewport)
 viewport-on-screen p h = legal-on-screen (p .view .viewport) (h .view .legal)
 
 -- ---- what keeps a port valid: another part of its state that is valid by itself
-module _ (p : Port) (h : Valid p) where
-  pub view-valid : (v : View) → ValidView (p .home) v → Valid (withView p v)
+module _ (p : Port) (h : ValidPort p) where
+  pub view-valid : (v : View) → ValidView (p .home) v → ValidPort (withView p v)
   view-valid v k = record { home = h .home; view = k; saved = h .saved; unsaved = h .unsaved; wait = h .wait }
 
-  pub saved-valid : (v : View) → ValidView (p .home) v → Valid (withSaved p true v)
+  pub saved-valid : (v : View) → ValidView (p .home) v → ValidPort (withSaved p true v)
   saved-valid v k = record { home = h .home; view = h .view; saved = λ _. k; unsaved = λ e. absurd (not-both refl e); wait = h .wait }
 
-  pub wait-valid : (code : ℕ) (gathered : List ℕ) (count : ℕ) → ValidWait code gathered count → Valid (withWait p code gathered count)
+  pub wait-valid : (code : ℕ) (gathered : List ℕ) (count : ℕ) → ValidWait code gathered count → ValidPort (withWait p code gathered count)
   wait-valid code gathered count k = record { home = h .home; view = h .view; saved = h .saved; unsaved = h .unsaved; wait = k }
 
 -- ---- the default view of a legal home is valid, and so is the fresh port
@@ -121,7 +121,7 @@ pub none-waits : ValidWait 0 noParameters 0
 unfolding parameters unusedZero usedOrZero
 none-waits = record { known = inl refl; fewer = λ h. h; none = λ _. refl; unused = decides-unused noParameters 0 .holds refl }
 
-pub fresh-valid : (home : Rect) → Legal home → Valid (freshPort home)
+pub fresh-valid : (home : Rect) → Legal home → ValidPort (freshPort home)
 fresh-valid home l = record {
   home = l;
   view = default-valid (freshPort home) l;

@@ -18,8 +18,8 @@ use Rattle.port.specs.declared.Flags.{Flags}
 use Rattle.port.specs.declared.View.{View}
 use Rattle.port.specs.Valid.{ValidView}
 use Rattle.port.specs.State.{cursorAt, withFlags, withModes}
-use Rattle.port.specs.Effect.{Effect, becomes, draws, andThen}
-use Rattle.port.specs.Codes.{moveCursorRight, modeOf, storeCell, advanced, printByte, print, nearestInside, nearestRect, resize, setPortSize, inOffsetRange, clearFromLineStart, clearToLineEnd, clearLine, clearLinesAbove, clearFromPortStart, clearLinesBelow, clearToPortEnd, clearPortAndHome, horizontalScroll, setVertical, setHorizontal, gotoXY, backspace, lineFeed, feedIfLF, carriageReturn, homeCursor, spaces, dleSpaceExpansion, moveCursorUp}
+use Rattle.port.specs.Effect.{Effect, becomes, draws, andThen, moveEdit}
+use Rattle.port.specs.Codes.{moveCursorRight, modeOf, storeCell, advance, printByte, print, nearestInside, nearestRect, resize, setPortSize, inOffsetRange, clearFromLineStart, clearToLineEnd, clearLine, clearLinesAbove, clearFromPortStart, clearLinesBelow, clearToPortEnd, clearPortAndHome, horizontalScroll, setVertical, setHorizontal, gotoXY, backspace, lineFeed, feedIfLF, carriageReturn, homeCursor, printSpaces, dleSpaceExpansion, moveCursorUp}
 use Rattle.port.specs.Keeps.{KeepsView}
 
 -- one effect and then another
@@ -51,9 +51,9 @@ module _ (home : Rect) (v : View) (h : ValidView home v) where
       (λ t. let u = and-right (v .flags .wrap) (ltb (v .line) (v .viewport .bottom)) t in record { view = omega (arith, ltb-true); viewport = refl; edits = tt }) λ _.
       by-test (KeepsView home v) (v .flags .wrap && v .flags .scroll) (λ _. record { view = omega arith; viewport = refl; edits = (omega arith, tt) }) (λ _. stays)
 
-  pub keeps-advanced : KeepsView home v (advanced v)
-  unfolding advanced
-  keeps-advanced = by-test (KeepsView home v) (v .flags .advance) (λ _. keeps-right) (λ _. stays)
+  pub keeps-advance : KeepsView home v (advance v)
+  unfolding advance
+  keeps-advance = by-test (KeepsView home v) (v .flags .advance) (λ _. keeps-right) (λ _. stays)
 
   keeps-store : (byte : ℕ) → KeepsView home v (storeCell v byte)
   unfolding storeCell
@@ -120,7 +120,7 @@ module _ (home : Rect) (v : View) (h : ValidView home v) where
   pub keeps-home-cursor : KeepsView home v (becomes (homeCursor v))
   keeps-home-cursor = record { view = omega arith; viewport = refl; edits = tt }
 
-  pub keeps-moves : (m : Motion) → KeepsView home v (draws v (record { rect = v .viewport; motion = m; fill = 0xa0 } ∷ []))
+  pub keeps-moves : (m : Motion) → KeepsView home v (draws v (moveEdit v m ∷ []))
   keeps-moves m = drawn _ (omega arith, tt)
 
   pub keeps-up : KeepsView home v (moveCursorUp v)
@@ -148,7 +148,7 @@ module _ (home : Rect) (v : View) (h : ValidView home v) where
 
 pub keeps-print-byte : (home : Rect) (v : View) → ValidView home v → (byte : ℕ) → KeepsView home v (printByte v byte)
 unfolding printByte
-keeps-print-byte home v h byte = keeps-then (keeps-store home v h byte) (keeps-advanced home)
+keeps-print-byte home v h byte = keeps-then (keeps-store home v h byte) (keeps-advance home)
 
 pub keeps-print : (home : Rect) (v : View) → ValidView home v → (code : ℕ) → KeepsView home v (print v code)
 unfolding print
@@ -169,8 +169,8 @@ keeps-return home v h = keeps-then {e = becomes (cursorAt v (v .viewport .left) 
 pub keeps-goto : (home : Rect) (v : View) → ValidView home v → (column line : ℕ) → KeepsView home v (becomes (gotoXY v column line))
 keeps-goto home v h column line = keeps-then (keeps-horizontal home v h column) (λ w k. keeps-vertical home w k line)
 
-pub keeps-spaces : (home : Rect) (n : ℕ) (v : View) → ValidView home v → KeepsView home v (spaces n v)
-unfolding spaces
+pub keeps-spaces : (home : Rect) (n : ℕ) (v : View) → ValidView home v → KeepsView home v (printSpaces n v)
+unfolding printSpaces
 keeps-spaces home zero v h = stays home v h
 keeps-spaces home (suc n) v h = keeps-then (keeps-print home v h 0x20) (keeps-spaces home n)
 

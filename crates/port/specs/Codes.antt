@@ -30,11 +30,11 @@ modeOf v = cond (v .inverse) (cond (v .mousetext) MouseText Inverse) Normal
 unfoldable pub storeCell : View → ℕ → Effect
 storeCell v byte = draws v (record { rect = lineSpan v (v .column) (v .column); motion = Clear; fill = byte } ∷ [])
 
-unfoldable pub advanced : View → Effect
-advanced v = cond (v .flags .advance) (moveCursorRight v) (becomes v)
+unfoldable pub advance : View → Effect
+advance v = cond (v .flags .advance) (moveCursorRight v) (becomes v)
 
 unfoldable pub printByte : View → ℕ → Effect
-printByte v byte = andThen (storeCell v byte) advanced
+printByte v byte = andThen (storeCell v byte) advance
 
 unfoldable pub print : View → ℕ → Effect
 print v code = printByte v (storedByte (modeOf v) code)
@@ -145,12 +145,12 @@ abbrev pub homeCursor : View → View
 homeCursor v = homed v
 
 -- $10: 'if DLE, prints count spaces (code $20, current mode); below 32 counts as none. If not DLE the byte is dropped'
-unfoldable pub spaces : ℕ → View → Effect
-spaces zero v = becomes v
-spaces (suc n) v = andThen (print v 0x20) (spaces n)
+unfoldable pub printSpaces : ℕ → View → Effect
+printSpaces zero v = becomes v
+printSpaces (suc n) v = andThen (print v 0x20) (printSpaces n)
 
 unfoldable pub dleSpaceExpansion : View → ℕ → Effect
-dleSpaceExpansion v b = cond (v .flags .dle) (spaces (b - 32) v) (becomes v)
+dleSpaceExpansion v b = cond (v .flags .dle) (printSpaces (b - 32) v) (becomes v)
 
 -- $15: 'the low five bits set DLE (bit 4), scroll, wrap, LF, advance (bit 0); the other three are ignored'
 unfoldable pub bitSet : ℕ → Bool

@@ -4,7 +4,7 @@ use Rattle.rectangle.specs.declared.Rect.{Rect}
 use Rattle.rectangle.specs.Local.{AllWithin}
 use Rattle.port.specs.declared.View.{View}
 use Rattle.port.specs.declared.Port.{Port}
-use Rattle.port.specs.Valid.{ValidView, Valid}
+use Rattle.port.specs.Valid.{ValidView, ValidPort}
 use Rattle.port.specs.Effect.{Effect}
 use Rattle.port.specs.Step.{Outcome}
 
@@ -16,7 +16,7 @@ pub record KeepsView (home : Rect) (v : View) (e : Effect) : Type 0 where
 
 -- of a byte on a port, whose viewport lies inside home
 pub record KeepsPort (p : Port) (m : Outcome) : Type 0 where
-  pub valid : Valid (m .port)
+  pub valid : ValidPort (m .port)
   pub home : m .port .home ≡ p .home
   pub edits : AllWithin (p .view .viewport) (m .edits)
 
@@ -28,6 +28,6 @@ pub record KeepsSaved (p : Port) (m : Outcome) : Type 0 where
 
 -- of a stream: a viewport that was set on the way lies inside home too
 pub record KeepsHome (p : Port) (m : Outcome) : Type 0 where
-  pub valid : Valid (m .port)
+  pub valid : ValidPort (m .port)
   pub home : m .port .home ≡ p .home
   pub edits : AllWithin (p .home) (m .edits)

@@ -5,6 +5,7 @@ use mathlib.Core.List.{List, []}
 use lib.Dec.{ltb, eqb}
 use lib.ListN.{getD, set}
 use Rattle.rectangle.specs.declared.Edit.{Edit}
+use Rattle.charset.specs.Stored.{isPrinting}
 use Rattle.port.specs.declared.Port.{Port}
 use Rattle.port.specs.State.{noParameters, withView, withSaved, withWait, defaultView}
 use Rattle.port.specs.Valid.{parameters}
@@ -85,12 +86,12 @@ control p code =
     (cond (eqb code 0x1e) (becomesPort (waitFor p 0x1e))
     (onView p (moveCursorUp (p .view)))))))))))))))))))))))))))))))))
 
--- a byte that is a code: below $20 a control code, and the rest, $20 to $FF, are printed
+-- a byte that is a code: a printing code is printed, and the others, below $20, are control codes
 unfoldable pub obey : Port → ℕ → Outcome
 obey p code =
     let controlled : Outcome = control p code in
     let printed : Outcome = onView p (print (p .view) code) in
-    cond (ltb code 32) controlled printed
+    cond (isPrinting code) printed controlled
 
 -- a command with its last parameter b; the seventh and last code that takes parameters is $1E. (What a `let` binds is computed only where it is chosen.)
 unfoldable pub perform : Port → ℕ → ℕ → Outcome

@@ -32,13 +32,13 @@ pub record ValidView (home : Rect) (v : View) : Type 0 where
   pub to-bottom : v .line ≤ v .viewport .bottom
 
 -- 'fields that carry nothing hold 0'
-unfoldable pub noFlags : Flags → Bool
-noFlags f = ((not (f .dle) && not (f .scroll)) && (not (f .wrap) && not (f .lf))) && not (f .advance)
+unfoldable pub isZeroFlags : Flags → Bool
+isZeroFlags f = ((not (f .dle) && not (f .scroll)) && (not (f .wrap) && not (f .lf))) && not (f .advance)
 
 unfoldable pub isZeroView : View → Bool
 isZeroView v =
     (isZeroRect (v .viewport) && (eqb (v .column) 0 && eqb (v .line) 0))
-    && (noFlags (v .flags) && (not (v .inverse) && not (v .mousetext)))
+    && (isZeroFlags (v .flags) && (not (v .inverse) && not (v .mousetext)))
 
 -- 'the same holds of a saved port', which carries nothing where there is none
 unfoldable pub validSaved : Rect → Bool → View → Bool
@@ -79,12 +79,12 @@ pub record ValidWait (code : ℕ) (gathered : List ℕ) (count : ℕ) : Type 0 w
   pub unused : (i : ℕ) → i < 4 → count ≤ i → getD gathered i 0 ≡ 0
 
 -- 'sound'
-unfoldable pub valid : Port → Bool
-valid p =
+unfoldable pub validPort : Port → Bool
+validPort p =
     (legal (p .home) && validView (p .home) (p .view))
     && (validSaved (p .home) (p .hassaved) (p .saved) && validWait (p .waiting) (p .gathered) (p .count))
 
-pub record Valid (p : Port) : Type 0 where
+pub record ValidPort (p : Port) : Type 0 where
   pub home : Legal (p .home)
   pub view : ValidView (p .home) (p .view)
   pub saved : p .hassaved ≡ true → ValidView (p .home) (p .saved)

@@ -39,8 +39,8 @@ fn valid_view(home: Rect, v: View) -> bool
     (legal(v.viewport) & within(v.viewport, home)) & cursor_inside(v)
 }
 
-fn no_flags(f: Flags) -> bool
-    ensures { λ b. ⌜ b ≡ rules.noFlags f ⌝ }
+fn is_zero_flags(f: Flags) -> bool
+    ensures { λ b. ⌜ b ≡ rules.isZeroFlags f ⌝ }
 {
     ((!f.dle & !f.scroll) & (!f.wrap & !f.lf)) & !f.advance
 }
@@ -49,7 +49,7 @@ fn is_zero_view(v: View) -> bool
     ensures { λ b. ⌜ b ≡ rules.isZeroView v ⌝ }
 {
     (is_zero_rect(v.viewport) & ((v.column == 0) & (v.line == 0)))
-        & (no_flags(v.flags) & (!v.inverse & !v.mousetext))
+        & (is_zero_flags(v.flags) & (!v.inverse & !v.mousetext))
 }
 
 fn valid_saved(home: Rect, has: bool, v: View) -> bool
@@ -92,7 +92,7 @@ fn valid_wait(code: u8, gathered: [u8; 4], count: u8) -> bool
 }
 
 pub fn valid_port(p: Port) -> bool
-    ensures { λ b. ⌜ b ≡ rules.valid p ⌝ }
+    ensures { λ b. ⌜ b ≡ rules.validPort p ⌝ }
 {
     let gathered = p.gathered;
     (legal(p.home) & valid_view(p.home, p.view))
@@ -102,7 +102,7 @@ pub fn valid_port(p: Port) -> bool
 // The same, for the one-byte call alone: the compiler inlines a function that has one caller.
 // A port that is judged where it is kept in registers is not copied to memory for each byte.
 pub fn valid_port_inlined(p: Port) -> bool
-    ensures { λ b. ⌜ b ≡ rules.valid p ⌝ }
+    ensures { λ b. ⌜ b ≡ rules.validPort p ⌝ }
 {
     let gathered = p.gathered;
     (legal(p.home) & valid_view(p.home, p.view))

@@ -14,27 +14,27 @@ use Rattle.rectangle.specs.Rectangles.{cellAt}
 use Rattle.rectangle.specs.Edit.{edited, draw}
 use Rattle.rectangle.proofs.Local.{draw-append}
 use Rattle.charset.specs.declared.Mode.{Mode}
-use Rattle.charset.specs.Stored.{storedByte}
+use Rattle.charset.specs.Stored.{Printing, storedByte}
 use Rattle.screen.specs.Run.{AllPrinting, storedRun, RunStored}
 use Rattle.port.specs.declared.View.{View}
 use Rattle.port.specs.declared.Port.{Port}
 use Rattle.port.specs.State.{zeroPort, withView, cursorAt}
 use Rattle.port.specs.Effect.{Effect, becomes}
-use Rattle.port.specs.Codes.{modeOf, storeCell, advanced, moveCursorRight, printByte, print}
+use Rattle.port.specs.Codes.{modeOf, storeCell, advance, moveCursorRight, printByte, print}
 use Rattle.port.specs.Step.{Outcome, onView, step}
 use Rattle.port.specs.Stream.{stream}
 use Rattle.port.proofs.Streams.{stream-cut}
 use Rattle.port.proofs.Prints.{step-prints}
 use Rattle.port.proofs.Views.{keeps-print-byte}
-use Rattle.printer.specs.Carry.{AllOnScreen, Drew, Carried}
+use Rattle.printer.specs.Execute.{AllOnScreen, Drew, Executed}
 use Rattle.printer.specs.Print.{Placed, Printed}
 use Rattle.printer.proofs.Draws.{on-screen}
 
 -- a stream in two parts
-pub cut-carried : (p q r : Port) (a b : List ℕ) (k n : ℕ) (s s₁ t : List ℕ) → Carried (stream p a) q k s s₁ → Carried (stream q b) r n s₁ t → Carried (stream p (a ++ b)) r (k + n) s t
-cut-carried p q r a b k n s s₁ t d e =
+pub cut-executed : (p q r : Port) (a b : List ℕ) (k n : ℕ) (s s₁ t : List ℕ) → Executed (stream p a) q k s s₁ → Executed (stream q b) r n s₁ t → Executed (stream p (a ++ b)) r (k + n) s t
+cut-executed p q r a b k n s s₁ t d e =
     let next : Port = stream p a .port in
-    subst (λ (m : Outcome). Carried m r (k + n) s t) (sym (stream-cut p a b)) (record {
+    subst (λ (m : Outcome). Executed m r (k + n) s t) (sym (stream-cut p a b)) (record {
       port-is = e .port-is ∙ ap (λ (x : Port). stream x b .port) (d .port-is);
       bells-are = (λ i. d .bells-are i + e .bells-are i) ∙ ap (λ (x : Port). stream p a .bells + stream x b .bells) (d .port-is);
       cells =
@@ -42,14 +42,14 @@ cut-carried p q r a b k n s s₁ t d e =
           ∙ sym (draw-append (stream p a .edits) (stream next b .edits) s);
     })
 
-pub nothing-carried : (p : Port) (s : List ℕ) → Carried (stream p []) p 0 s s
+pub nothing-executed : (p : Port) (s : List ℕ) → Executed (stream p []) p 0 s s
 unfolding stream draw
-nothing-carried p s = record { port-is = refl; bells-are = refl; cells = refl }
+nothing-executed p s = record { port-is = refl; bells-are = refl; cells = refl }
 
 -- a stream of one byte
-pub single-carried : (p q : Port) (b n : ℕ) (s t : List ℕ) → Carried (step p b) q n s t → Carried (stream p (b ∷ [])) q n s t
+pub single-executed : (p q : Port) (b n : ℕ) (s t : List ℕ) → Executed (step p b) q n s t → Executed (stream p (b ∷ [])) q n s t
 unfolding stream
-single-carried p q b n s t d = record {
+single-executed p q b n s t d = record {
   port-is = d .port-is;
   bells-are = d .bells-are ∙ sym (add-zero (step p b .bells));
   cells = d .cells ∙ ap (λ (es : List Edit). draw es s) (sym (append-nil (step p b .edits)));
@@ -60,12 +60,12 @@ pub byte-on-screen : (v : View) (byte : ℕ) → Placed v → AllOnScreen (print
 byte-on-screen v byte h = on-screen (v .viewport) (h .legal .right-in) (h .legal .bottom-in) (printByte v byte .edits) (keeps-print-byte (v .viewport) v h byte .edits)
 
 -- a printing code, where nothing waits
-pub code-carried : (p : Port) (code byte : ℕ) → p .waiting ≡ 0 → 32 ≤ code → byte ≡ storedByte (modeOf (p .view)) code → (w : View) (s t : List ℕ) → Drew (printByte (p .view) byte) w s t
-    → Carried (step p code) (withView p w) 0 s t
+pub code-executed : (p : Port) (code byte : ℕ) → p .waiting ≡ 0 → Printing code → byte ≡ storedByte (modeOf (p .view)) code → (w : View) (s t : List ℕ) → Drew (printByte (p .view) byte) w s t
+    → Executed (step p code) (withView p w) 0 s t
 unfolding print
-code-carried p code byte none large is w s t d =
+code-executed p code byte none large is w s t d =
     let prints : step p code ≡ onView p (printByte (p .view) byte) = step-prints p code none large ∙ ap (λ (x : ℕ). onView p (printByte (p .view) x)) (sym is) in
-    subst (λ (m : Outcome). Carried m (withView p w) 0 s t) (sym prints) (record { port-is = ap (withView p) (d .view); bells-are = refl; cells = d .cells })
+    subst (λ (m : Outcome). Executed m (withView p w) 0 s t) (sym prints) (record { port-is = ap (withView p) (d .view); bells-are = refl; cells = d .cells })
 
 -- where no code was printed the cells are as they were
 none-drawn : (v w : View) (bytes : List ℕ) (from n : ℕ) (s t : List ℕ) → n ≤ 0 → Printed v (take n (drop from bytes)) w s t → t ≡ s
@@ -75,7 +75,7 @@ none-drawn v w bytes from n s t few printed =
     subst (λ (k : ℕ). t ≡ draw (stream (withView zeroPort v) (take k (drop from bytes)) .edits) s) nothing (printed .as-stream (withView zeroPort v) refl refl .cells)
 
 -- one code alone, where there is no run
-pub one-printed : (v u w : View) (bytes : List ℕ) (from n byte : ℕ) (s s₁ t : List ℕ) → n ≤ 0 → Printed v (take n (drop from bytes)) u s s₁ → from < length bytes → 32 ≤ getD bytes from 0
+pub one-printed : (v u w : View) (bytes : List ℕ) (from n byte : ℕ) (s s₁ t : List ℕ) → n ≤ 0 → Printed v (take n (drop from bytes)) u s s₁ → from < length bytes → Printing (getD bytes from 0)
     → byte ≡ storedByte (modeOf v) (getD bytes from 0)
     → Drew (printByte v byte) w s₁ t
     → Printed v (take 1 (drop from bytes)) w s t
@@ -83,14 +83,14 @@ one-printed v u w bytes from n byte s s₁ t few run inside large is d = record 
   as-stream = λ p same none.
       let code : ℕ = getD bytes from 0 in
       let drew = subst (λ (x : List ℕ). Drew (printByte v byte) w x t) (none-drawn v u bytes from n s s₁ few run) d in
-      subst (λ (codes : List ℕ). Carried (stream p codes) (withView p w) 0 s t) (sym (alone-taken bytes from inside))
-      (single-carried p (withView p w) code 0 s t
-      (code-carried p code byte none large (is ∙ ap (λ (x : View). storedByte (modeOf x) code) (sym same)) w s t (subst (λ (x : View). Drew (printByte x byte) w s t) (sym same) drew)));
+      subst (λ (codes : List ℕ). Executed (stream p codes) (withView p w) 0 s t) (sym (alone-taken bytes from inside))
+      (single-executed p (withView p w) code 0 s t
+      (code-executed p code byte none large (is ∙ ap (λ (x : View). storedByte (modeOf x) code) (sym same)) w s t (subst (λ (x : View). Drew (printByte x byte) w s t) (sym same) drew)));
 }
 
 -- left of the right edge the cursor goes one to the right
-advances : (v : View) → v .flags .advance ≡ true → v .column < v .viewport .right → advanced v ≡ becomes (cursorAt v (v .column + 1) (v .line))
-unfolding advanced moveCursorRight
+advances : (v : View) → v .flags .advance ≡ true → v .column < v .viewport .right → advance v ≡ becomes (cursorAt v (v .column + 1) (v .line))
+unfolding advance moveCursorRight
 advances v on less = simp (on, lt-ltb (v .column) (v .viewport .right) less)
 
 prints-left : (v : View) (byte : ℕ) (s : List ℕ) → v .flags .advance ≡ true → v .column < v .viewport .right
@@ -101,12 +101,12 @@ prints-left v byte s on less =
     record { view = ap (λ (e : Effect). e .view) moves; cells = ap (λ (e : Effect). draw (e .edits) (edited (cellAt (v .column) (v .line)) Clear byte s)) moves }
 
 -- codes that stay left of the right edge: the first, and then the others
-run-carried : (codes : List ℕ) (p : Port) (s : List ℕ) → p .view .flags .advance ≡ true → p .view .column + length codes ≤ p .view .viewport .right → AllPrinting codes → p .waiting ≡ 0
-    → Carried (stream p codes) (withView p (cursorAt (p .view) (p .view .column + length codes) (p .view .line))) 0 s (storedRun (modeOf (p .view)) (p .view .column) (p .view .line) codes s)
+run-executed : (codes : List ℕ) (p : Port) (s : List ℕ) → p .view .flags .advance ≡ true → p .view .column + length codes ≤ p .view .viewport .right → AllPrinting codes → p .waiting ≡ 0
+    → Executed (stream p codes) (withView p (cursorAt (p .view) (p .view .column + length codes) (p .view .line))) 0 s (storedRun (modeOf (p .view)) (p .view .column) (p .view .line) codes s)
 unfolding storedRun modeOf
-run-carried [] p s on fits all none =
-    subst (λ (n : ℕ). Carried (stream p []) (withView p (cursorAt (p .view) n (p .view .line))) 0 s s) (sym (add-zero (p .view .column))) (nothing-carried p s)
-run-carried (c ∷ cs) p s on fits all none =
+run-executed [] p s on fits all none =
+    subst (λ (n : ℕ). Executed (stream p []) (withView p (cursorAt (p .view) n (p .view .line))) 0 s s) (sym (add-zero (p .view .column))) (nothing-executed p s)
+run-executed (c ∷ cs) p s on fits all none =
     let v : View = p .view in
     let q : Port = withView p (cursorAt v (v .column + 1) (v .line)) in
     let byte : ℕ = storedByte (modeOf v) c in
@@ -114,9 +114,9 @@ run-carried (c ∷ cs) p s on fits all none =
     let s₁ : List ℕ = edited (cellAt (v .column) (v .line)) Clear byte s in
     let t : List ℕ = storedRun (modeOf v) (v .column + 1) (v .line) cs s₁ in
     let place : v .column + 1 + length cs ≡ v .column + length (c ∷ cs) = omega arith in
-    let first = code-carried p c byte none (all .0) refl (q .view) s s₁ (prints-left v byte s on less) in
-    let rest = run-carried cs q s₁ on (omega arith) (all .1) none in
-    subst (λ (n : ℕ). Carried (stream p (c ∷ cs)) (withView p (cursorAt v n (v .line))) 0 s t) place (cut-carried p q _ (c ∷ []) cs 0 0 s s₁ t (single-carried p q c 0 s s₁ first) rest)
+    let first = code-executed p c byte none (all .0) refl (q .view) s s₁ (prints-left v byte s on less) in
+    let rest = run-executed cs q s₁ on (omega arith) (all .1) none in
+    subst (λ (n : ℕ). Executed (stream p (c ∷ cs)) (withView p (cursorAt v n (v .line))) 0 s t) place (cut-executed p q _ (c ∷ []) cs 0 0 s s₁ t (single-executed p q c 0 s s₁ first) rest)
 
 -- a run that was stored is printed
 module _ (v : View) (bytes : List ℕ) (from n : ℕ) (mode : Mode) (s t : List ℕ) (is : mode ≡ modeOf v) (on : v .flags .advance ≡ true) (placed : Placed v)
@@ -132,10 +132,10 @@ module _ (v : View) (bytes : List ℕ) (from n : ℕ) (mode : Mode) (s t : List 
         let stored : t ≡ storedRun (modeOf v) (v .column) (v .line) codes s = run .cells ∙ ap (λ (x : Mode). storedRun x (v .column) (v .line) codes s) is in
         let fits : v .column + length codes ≤ v .viewport .right = let h = run-fits in omega arith in
         let carried =
-        subst (λ (x : View). Carried (stream p codes) (withView p (cursorAt x (x .column + length codes) (x .line))) 0 s (storedRun (modeOf x) (x .column) (x .line) codes s)) same
-        (run-carried codes p s (ap (λ (x : View). x .flags .advance) same ∙ on) (subst (λ (x : View). x .column + length codes ≤ x .viewport .right) (sym same) fits) (run .printing) none) in
-        subst (λ (u : List ℕ). Carried (stream p codes) (withView p (cursorAt v (v .column + n) (v .line))) 0 s u) (sym stored)
-        (subst (λ (k : ℕ). Carried (stream p codes) (withView p (cursorAt v (v .column + k) (v .line))) 0 s (storedRun (modeOf v) (v .column) (v .line) codes s)) long carried);
+        subst (λ (x : View). Executed (stream p codes) (withView p (cursorAt x (x .column + length codes) (x .line))) 0 s (storedRun (modeOf x) (x .column) (x .line) codes s)) same
+        (run-executed codes p s (ap (λ (x : View). x .flags .advance) same ∙ on) (subst (λ (x : View). x .column + length codes ≤ x .viewport .right) (sym same) fits) (run .printing) none) in
+        subst (λ (u : List ℕ). Executed (stream p codes) (withView p (cursorAt v (v .column + n) (v .line))) 0 s u) (sym stored)
+        (subst (λ (k : ℕ). Executed (stream p codes) (withView p (cursorAt v (v .column + k) (v .line))) 0 s (storedRun (modeOf v) (v .column) (v .line) codes s)) long carried);
   }
 
 -- in an equal view
@@ -146,6 +146,6 @@ printed-to {v} {u} {w} {codes} {s} {t} printed is = subst (λ (x : View). Printe
 pub none-printed : (v : View) (bytes : List ℕ) (from : ℕ) (s : List ℕ) → Printed v (take 0 (drop from bytes)) (cursorAt v (v .column + 0) (v .line)) s s
 none-printed v bytes from s = record {
   as-stream = λ p same none.
-      subst (λ (n : ℕ). Carried (stream p []) (withView p (cursorAt v n (v .line))) 0 s s) (sym (add-zero (v .column)))
-      (subst (λ (x : View). Carried (stream p []) (withView p x) 0 s s) same (nothing-carried p s));
+      subst (λ (n : ℕ). Executed (stream p []) (withView p (cursorAt v n (v .line))) 0 s s) (sym (add-zero (v .column)))
+      (subst (λ (x : View). Executed (stream p []) (withView p x) 0 s s) same (nothing-executed p s));
 }

@@ -15,7 +15,7 @@ use Rattle.view.specs.declared.Change.{Change}
 use Rattle.view.specs.declared.Change.the-variants.{Nothing, Draw}
 use Rattle.view.specs.declared.ViewPlan.{ViewPlan}
 use Rattle.view.specs.Plan.{changeList, planEffect}
-use Rattle.printer.specs.Carry.{AllOnScreen, Drew}
+use Rattle.printer.specs.Execute.{AllOnScreen, Drew}
 
 -- edits inside a rectangle on the screen are on the screen
 pub on-screen : (r : Rect) → r .right ≤ 79 → r .bottom ≤ 23 → (es : List Edit) → AllWithin r es → AllOnScreen es

@@ -15,10 +15,10 @@ use Rattle.charset.specs.declared.Mode.{Mode}
 use Rattle.charset.specs.Stored.{storedByte}
 use Rattle.port.specs.declared.View.{View}
 use Rattle.port.specs.Effect.{Effect, andThen}
-use Rattle.port.specs.Codes.{moveCursorRight, advanced, storeCell, printByte, print, modeOf, spaces}
+use Rattle.port.specs.Codes.{moveCursorRight, advance, storeCell, printByte, print, modeOf, printSpaces}
 use Rattle.view.specs.declared.Moved.{Moved}
 use Rattle.view.specs.Plan.{changeList, effectOf}
-use Rattle.printer.specs.Carry.{AllOnScreen, Drew}
+use Rattle.printer.specs.Execute.{AllOnScreen, Drew}
 use Rattle.printer.proofs.Draws.{front-on-screen, back-on-screen, length-draw}
 
 -- a byte stored, and then what the cursor's move draws
@@ -27,11 +27,11 @@ module _ (v : View) (byte : ℕ) (all : AllOnScreen (printByte v byte .edits)) w
   unfolding printByte storeCell
   cell-on-screen = (all .0 .right-in, all .0 .bottom-in)
 
-  pub move-on-screen : (m : Moved) → effectOf m ≡ advanced v → AllOnScreen (changeList (m .change))
+  pub move-on-screen : (m : Moved) → effectOf m ≡ advance v → AllOnScreen (changeList (m .change))
   unfolding printByte storeCell
   move-on-screen m is = subst (λ (e : Effect). AllOnScreen (e .edits)) (sym is) (all .1)
 
-pub printed : (v : View) (byte : ℕ) (m : Moved) (w : View) (s s₁ t : List ℕ) → effectOf m ≡ advanced v → s₁ ≡ edited (cellAt (v .column) (v .line)) Clear byte s → Drew (effectOf m) w s₁ t
+pub printed : (v : View) (byte : ℕ) (m : Moved) (w : View) (s s₁ t : List ℕ) → effectOf m ≡ advance v → s₁ ≡ edited (cellAt (v .column) (v .line)) Clear byte s → Drew (effectOf m) w s₁ t
     → Drew (printByte v byte) w s t
 unfolding printByte storeCell draw
 printed v byte m w s s₁ t is stored d = record { view = d .view ∙ ap (λ (e : Effect). e .view) is; cells = d .cells ∙ (λ i. draw (is i .edits) (stored i)) }
@@ -42,7 +42,7 @@ stored-as v mode code e k = e ∙ ap (λ (z : Mode). storedByte z code) k
 
 -- printing keeps the mode
 mode-kept : (v : View) (byte : ℕ) → modeOf (printByte v byte .view) ≡ modeOf v
-unfolding printByte storeCell advanced moveCursorRight modeOf
+unfolding printByte storeCell advance moveCursorRight modeOf
 mode-kept v byte =
     by-test Same (v .flags .advance)
     (λ _. by-test Same (ltb (v .column) (v .viewport .right)) (λ _. refl) λ _.
@@ -56,39 +56,39 @@ mode-kept v byte =
 pub record Spacing (byte asked : ℕ) (start : View) (s₀ : List ℕ) (left : ℕ) (v : View) (s : List ℕ) : Type 0 where
   pub long : length s ≡ 1920
   pub stored : byte ≡ storedByte (modeOf v) 0x20
-  pub edits : AllOnScreen (spaces left v .edits)
-  pub rest : (w : View) (t : List ℕ) → Drew (spaces left v) w s t → Drew (spaces asked start) w s₀ t
+  pub edits : AllOnScreen (printSpaces left v .edits)
+  pub rest : (w : View) (t : List ℕ) → Drew (printSpaces left v) w s t → Drew (printSpaces asked start) w s₀ t
 
-pub spacing-starts : (byte n : ℕ) (v : View) (s : List ℕ) → length s ≡ 1920 → byte ≡ storedByte (modeOf v) 0x20 → AllOnScreen (spaces n v .edits) → Spacing byte n v s n v s
+pub spacing-starts : (byte n : ℕ) (v : View) (s : List ℕ) → length s ≡ 1920 → byte ≡ storedByte (modeOf v) 0x20 → AllOnScreen (printSpaces n v .edits) → Spacing byte n v s n v s
 spacing-starts byte n v s len stored edits = record { long = len; stored = stored; edits = edits; rest = λ w t d. d }
 
-pub spacing-ends : (byte n : ℕ) (v : View) (s₀ : List ℕ) (left : ℕ) (w : View) (s : List ℕ) → Spacing byte n v s₀ left w s → left ≤ 0 → Drew (spaces n v) w s₀ s
-unfolding spaces draw
+pub spacing-ends : (byte n : ℕ) (v : View) (s₀ : List ℕ) (left : ℕ) (w : View) (s : List ℕ) → Spacing byte n v s₀ left w s → left ≤ 0 → Drew (printSpaces n v) w s₀ s
+unfolding printSpaces draw
 spacing-ends byte n v s₀ zero w s r h = r .rest w s (record { view = refl; cells = refl })
 spacing-ends byte n v s₀ (suc left) w s r h = absurd (omega arith)
 
 -- one space, and then those that are left
-one-less : (n : ℕ) (v : View) → 0 < n → spaces n v ≡ andThen (print v 0x20) (spaces (n - 1))
-unfolding spaces
+one-less : (n : ℕ) (v : View) → 0 < n → printSpaces n v ≡ andThen (print v 0x20) (printSpaces (n - 1))
+unfolding printSpaces
 one-less zero v h = absurd (omega arith)
 one-less (suc n) v h = let e : suc n - 1 ≡ n = omega arith in rw e
 
 module _ {byte asked : ℕ} {start : View} {s₀ : List ℕ} {left : ℕ} {v : View} {s : List ℕ} (r : Spacing byte asked start s₀ left v s) (some : 0 < left) where
-  split : spaces left v ≡ andThen (printByte v byte) (spaces (left - 1))
+  split : printSpaces left v ≡ andThen (printByte v byte) (printSpaces (left - 1))
   unfolding print
-  split = one-less left v some ∙ ap (λ (b : ℕ). andThen (printByte v b) (spaces (left - 1))) (sym (r .stored))
+  split = one-less left v some ∙ ap (λ (b : ℕ). andThen (printByte v b) (printSpaces (left - 1))) (sym (r .stored))
 
-  all-edits : AllOnScreen (printByte v byte .edits ++ spaces (left - 1) (printByte v byte .view) .edits)
+  all-edits : AllOnScreen (printByte v byte .edits ++ printSpaces (left - 1) (printByte v byte .view) .edits)
   all-edits = subst (λ (e : Effect). AllOnScreen (e .edits)) split (r .edits)
 
   pub space-edits : AllOnScreen (printByte v byte .edits)
-  space-edits = front-on-screen (printByte v byte .edits) (spaces (left - 1) (printByte v byte .view) .edits) all-edits
+  space-edits = front-on-screen (printByte v byte .edits) (printSpaces (left - 1) (printByte v byte .view) .edits) all-edits
 
   pub spacing-again : (w : View) (t : List ℕ) → Drew (printByte v byte) w s t → Spacing byte asked start s₀ (left - 1) w t
   spacing-again w t d = subst (λ (x : View). Spacing byte asked start s₀ (left - 1) x t) (sym (d .view)) (record {
     long = ap length (d .cells) ∙ length-draw (printByte v byte .edits) s (r .long);
     stored = r .stored ∙ ap (λ (k : Mode). storedByte k 0x20) (sym (mode-kept v byte));
-    edits = back-on-screen (printByte v byte .edits) (spaces (left - 1) (printByte v byte .view) .edits) all-edits;
+    edits = back-on-screen (printByte v byte .edits) (printSpaces (left - 1) (printByte v byte .view) .edits) all-edits;
     rest = λ x u e. r .rest x u (subst (λ (y : Effect). Drew y x s u) (sym split)
-        (record { view = e .view; cells = e .cells ∙ ap (draw (spaces (left - 1) (printByte v byte .view) .edits)) (d .cells) ∙ sym (draw-append (printByte v byte .edits) (spaces (left - 1) (printByte v byte .view) .edits) s) }));
+        (record { view = e .view; cells = e .cells ∙ ap (draw (printSpaces (left - 1) (printByte v byte .view) .edits)) (d .cells) ∙ sym (draw-append (printByte v byte .edits) (printSpaces (left - 1) (printByte v byte .view) .edits) s) }));
   })

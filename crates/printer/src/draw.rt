@@ -8,7 +8,7 @@ ghost use mathlib.Core.Path.{_≡_};
 ghost use lib.ListN.{length};
 ghost use Rattle.rectangle.specs.Edit.{draw};
 ghost use Rattle.view.specs.Plan.{changeList, effectOf, planEffect};
-ghost use Rattle.printer.specs.Carry.{AllOnScreen, Drew};
+ghost use Rattle.printer.specs.Execute.{AllOnScreen, Drew};
 
 // An edit, or none.
 fn draw_change(screen: &mut [u8], change: Change)

@@ -12,10 +12,10 @@ use view::mode_of;
 ghost use mathlib.Core.Path.{_≡_};
 ghost use Prim.Native.Nat.{_+_, _≤_, _<_};
 ghost use lib.ListN.{length, getD, take, drop};
-ghost use Rattle.charset.specs.Stored.{Agrees, storedByte};
+ghost use Rattle.charset.specs.Stored.{Printing, Agrees, storedByte};
 ghost use Rattle.port.specs.State.{cursorAt};
-ghost use Rattle.port.specs.Codes.{modeOf, printByte, spaces};
-ghost use Rattle.printer.specs.Carry.{AllOnScreen, Drew};
+ghost use Rattle.port.specs.Codes.{modeOf, printByte, printSpaces};
+ghost use Rattle.printer.specs.Execute.{AllOnScreen, Drew};
 ghost use Rattle.printer.specs.Print.{Placed, Printed};
 
 // Prints a byte: it is stored at the cursor, and the cursor advances.
@@ -29,8 +29,8 @@ pub fn print_byte(screen: &mut [u8], v: View, byte: u8) -> View
 
 // Prints spaces, each stored as byte.
 pub fn print_spaces(screen: &mut [u8], v: View, byte: u8, count: u8) -> View
-    requires { ⌜ AllOnScreen (spaces count v .edits) × (byte ≡ storedByte (modeOf v) 0x20) × (length (now screen) ≡ 1920) ⌝ }
-    ensures { λ r. ⌜ Drew (spaces count v) r (now (screen .entry)) (now (screen .exit)) ⌝ }
+    requires { ⌜ AllOnScreen (printSpaces count v .edits) × (byte ≡ storedByte (modeOf v) 0x20) × (length (now screen) ≡ 1920) ⌝ }
+    ensures { λ r. ⌜ Drew (printSpaces count v) r (now (screen .entry)) (now (screen .exit)) ⌝ }
 {
     let mut at = v;
     let mut left = count;
@@ -47,7 +47,7 @@ fn print_run(screen: &mut [u8], table: &[u8; 768], v: View, bytes: &[u8], from: 
     requires { ⌜ Placed v × Agrees (now table) × (from ≤ length (now bytes)) × (length (now screen) ≡ 1920) ⌝ }
     ensures { λ n. ⌜ (v .column + n ≤ v .viewport .right) × (from + n ≤ length (now (bytes .entry))) × Printed v (take n (drop from (now (bytes .entry)))) (cursorAt v (v .column + n) (v .line)) (now (screen .entry)) (now (screen .exit)) ⌝ }
 {
-    let port = v.viewport;
+    let viewport = v.viewport;
     let flags = v.flags;
     if flags.advance {
         let mode = mode_of(v);
@@ -55,7 +55,7 @@ fn print_run(screen: &mut [u8], table: &[u8; 768], v: View, bytes: &[u8], from: 
             screen,
             v.column as usize,
             v.line as usize,
-            (port.right - v.column) as usize,
+            (viewport.right - v.column) as usize,
             table,
             mode,
             bytes,
@@ -80,7 +80,7 @@ pub fn print_codes(
     bytes: &[u8],
     from: usize,
 ) -> PrintedCodes
-    requires { ⌜ Placed v × Agrees (now table) × (from < length (now bytes)) × (32 ≤ getD (now bytes) from 0) × (length (now screen) ≡ 1920) ⌝ }
+    requires { ⌜ Placed v × Agrees (now table) × (from < length (now bytes)) × Printing (getD (now bytes) from 0) × (length (now screen) ≡ 1920) ⌝ }
     ensures { λ r. ⌜ (0 < r .count) × (from + r .count ≤ length (now (bytes .entry))) × Printed v (take (r .count) (drop from (now (bytes .entry)))) (r .view) (now (screen .entry)) (now (screen .exit)) ⌝ }
 {
     let run = print_run(screen, table, v, bytes, from);

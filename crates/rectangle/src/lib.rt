@@ -31,7 +31,7 @@ pub struct Edit {
 }
 
 // The number of columns.
-pub fn width(rect: Rect) -> u8
+pub fn width_of(rect: Rect) -> u8
     requires { ⌜ rules.OnScreen rect ⌝ }
     ensures { λ r. ⌜ r ≡ rules.widthOf rect ⌝ }
 {
@@ -39,7 +39,7 @@ pub fn width(rect: Rect) -> u8
 }
 
 // The number of lines.
-pub fn height(rect: Rect) -> u8
+pub fn height_of(rect: Rect) -> u8
     requires { ⌜ rules.OnScreen rect ⌝ }
     ensures { λ r. ⌜ r ≡ rules.heightOf rect ⌝ }
 {

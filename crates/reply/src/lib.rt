@@ -1,6 +1,6 @@
 // Paper 01, 'What comes back': the status that every call of a console or a multiplexer answers with. What else a call leaves is in specs/.
 ghost use mathlib.Core.Path.{_≡_};
-ghost use Rattle.reply.specs.Numbers.{numberOf};
+ghost use Rattle.reply.specs.Numbers.{statusNumber};
 
 // The table's rows in its order. 1 to 10 are refusals.
 pub enum Status {
@@ -19,7 +19,7 @@ pub enum Status {
 
 // The paper's number.
 pub fn status_number(status: Status) -> u8
-    ensures { λ r. ⌜ r ≡ numberOf status ⌝ }
+    ensures { λ r. ⌜ r ≡ statusNumber status ⌝ }
 {
     match status {
         Status::Done => 0,

@@ -58,10 +58,10 @@ module _ {r : Rect} (l : ℕ) (fits : OnScreen r) (top : r .top ≤ l) (bottom :
     fill-cells : Rewritten p q (λ i. fill) t u → ((i : ℕ) → p ≤ i → i < q → Vacated r m i) → Rewritten p q (cellOf r m fill s) t u
     fill-cells run vacant = holds run (λ i h k. sym (cell-vacated r m fill _ i (here i (omega arith) (omega arith)) (vacant i h k)))
 
-    move-cells : (o : ℕ → ℕ) → Rewritten p q (λ i. getD t (o i) 0) t u
+    move-edit : (o : ℕ → ℕ) → Rewritten p q (λ i. getD t (o i) 0) t u
         → ((i : ℕ) → p ≤ i → i < q → (Vacated r m i → ⊥) × (o i ≡ origin m i) × (getD t (o i) 0 ≡ getD s (o i) 0))
         → Rewritten p q (cellOf r m fill s) t u
-    move-cells o run kept =
+    move-edit o run kept =
         holds run
         (λ i h k. let x = kept i h k in
         x .2 ∙ ap (λ j. getD s j 0) (x .1) ∙ sym (cell-moved r m fill (λ j. getD s j 0) i (here i (omega arith) (omega arith)) (x .0)))
@@ -95,14 +95,14 @@ module _ {r : Rect} (l : ℕ) (fits : OnScreen r) (top : r .top ≤ l) (bottom :
     unfolding origin
     up-line next within walk =
         below Up
-        (move-cells Up (omega arith) (omega arith) _ run (λ i h k. ((λ v. omega arith), omega arith, walk .high _ (omega arith))))
+        (move-edit Up (omega arith) (omega arith) _ run (λ i h k. ((λ v. omega arith), omega arith, walk .high _ (omega arith))))
         walk
 
     pub down-line : source + 1 ≡ l → r .top ≤ source → (past : ℕ) → l < past → Done r Down fill (l + 1) past s t → Done r Down fill l past s u
     unfolding origin
     down-line next within past x walk =
         above Down
-        (move-cells Down (omega arith) (omega arith) _ run (λ i h k. ((λ v. omega arith), omega arith, walk .low _ (omega arith))))
+        (move-edit Down (omega arith) (omega arith) _ run (λ i h k. ((λ v. omega arith), omega arith, walk .low _ (omega arith))))
         past x walk
 
   -- a line of a shift: one run moves cells, and another, beside it, fills
@@ -116,7 +116,7 @@ module _ {r : Rect} (l : ℕ) (fits : OnScreen r) (top : r .top ≤ l) (bottom :
     left-line is-b moves fills walk =
         below (Left count)
         (then-after (omega arith) (omega arith)
-        (move-cells (Left count) (omega arith) (omega arith) _ moves (λ i h k. ((λ v. omega arith), omega arith, walk .high _ (omega arith))))
+        (move-edit (Left count) (omega arith) (omega arith) _ moves (λ i h k. ((λ v. omega arith), omega arith, walk .high _ (omega arith))))
         (fill-cells (Left count) (omega arith) (omega arith) fills (λ i h k. omega arith)))
         walk
 
@@ -129,6 +129,6 @@ module _ {r : Rect} (l : ℕ) (fits : OnScreen r) (top : r .top ≤ l) (bottom :
     right-line is-b moves fills walk =
         below (Right count)
         (then-before (omega arith) (omega arith)
-        (move-cells (Right count) (omega arith) (omega arith) _ moves (λ i h k. ((λ v. omega arith), omega arith, walk .high _ (omega arith))))
+        (move-edit (Right count) (omega arith) (omega arith) _ moves (λ i h k. ((λ v. omega arith), omega arith, walk .high _ (omega arith))))
         (fill-cells (Right count) (omega arith) (omega arith) fills (λ i h k. omega arith)))
         walk

@@ -10,11 +10,11 @@ use Rattle.rectangle.specs.declared.Motion.the-variants.{Clear}
 use Rattle.rectangle.specs.Rectangles.{cellAt}
 use Rattle.rectangle.specs.Edit.{edited}
 use Rattle.charset.specs.declared.Mode.{Mode}
-use Rattle.charset.specs.Stored.{storedByte}
+use Rattle.charset.specs.Stored.{Printing, storedByte}
 use Rattle.screen.specs.Run.{AllPrinting, storedRun, RunStored}
 use Rattle.screen.proofs.Stores.{stores-cell}
 
-printing-append : (cs : List ℕ) (c : ℕ) → AllPrinting cs → 32 ≤ c → AllPrinting (cs ++ (c ∷ []))
+printing-append : (cs : List ℕ) (c : ℕ) → AllPrinting cs → Printing c → AllPrinting (cs ++ (c ∷ []))
 printing-append [] c all h = (h, tt)
 printing-append (d ∷ cs) c all h = (all .0, printing-append cs c (all .1) h)
 
@@ -41,7 +41,7 @@ pub one-stored : {mode : Mode} {column line room : ℕ} {bytes : List ℕ} {from
     → length t ≡ 1920
     → n < room
     → from + n < length bytes
-    → 32 ≤ getD bytes (from + n) 0
+    → Printing (getD bytes (from + n) 0)
     → index ≡ 80 * line + (column + n)
     → byte ≡ storedByte mode (getD bytes (from + n) 0)
     → RunStored mode column line room bytes from (n + 1) s (set t index byte)

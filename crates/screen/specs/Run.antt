@@ -7,12 +7,12 @@ use Rattle.rectangle.specs.declared.Motion.the-variants.{Clear}
 use Rattle.rectangle.specs.Rectangles.{cellAt}
 use Rattle.rectangle.specs.Edit.{edited}
 use Rattle.charset.specs.declared.Mode.{Mode}
-use Rattle.charset.specs.Stored.{storedByte}
+use Rattle.charset.specs.Stored.{Printing, storedByte}
 
--- codes of $20 and above: those that are printed
+-- each of them is a printing code
 abbrev pub AllPrinting : List ℕ → Type 0
 AllPrinting [] = Unit {0}
-AllPrinting (c ∷ cs) = (32 ≤ c) × AllPrinting cs
+AllPrinting (c ∷ cs) = Printing c × AllPrinting cs
 
 -- codes stored one after another, each in the cell to the right of the one before
 unfoldable pub storedRun : Mode → ℕ → ℕ → List ℕ → List ℕ → List ℕ

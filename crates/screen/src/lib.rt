@@ -5,7 +5,7 @@ use charset::stored_byte;
 use rectangle::Edit;
 use rectangle::Motion;
 use rectangle::Rect;
-use rectangle::width;
+use rectangle::width_of;
 ghost use mathlib.Core.Path.{_≡_};
 ghost use Prim.Native.Nat.{_+_, _-_, _*_, _≤_, _<_, min};
 ghost use mathlib.Core.List.{[]};
@@ -33,7 +33,7 @@ fn cell_index(column: usize, line: usize) -> usize
     80 * line + column
 }
 
-fn least(a: usize, b: usize) -> usize
+fn min(a: usize, b: usize) -> usize
     ensures { λ r. ⌜ r ≡ min a b ⌝ }
 {
     if a < b { a } else { b }
@@ -102,7 +102,7 @@ pub fn store_run(
     requires { ⌜ (column + room ≤ 80) × (line ≤ 23) × (length (now screen) ≡ 1920) × (from ≤ length (now bytes)) × Agrees (now table) ⌝ }
     ensures { λ n. ⌜ RunStored mode column line room (now (bytes .entry)) from n (now (screen .entry)) (now (screen .exit)) ⌝ }
 {
-    let most = least(room, bytes.len() - from);
+    let most = min(room, bytes.len() - from);
     let mut n = 0;
     while n < most {
         let code = bytes[from + n];
@@ -227,7 +227,7 @@ pub fn shift_left(screen: &mut [u8], rect: Rect, count: u8, fill: u8)
     requires { ⌜ OnScreen rect × (length (now screen) ≡ 1920) ⌝ }
     ensures { λ _. ⌜ now (screen .exit) ≡ edited rect (Motion.Left count) fill (now (screen .entry)) ⌝ }
 {
-    let gap = least(count as usize, width(rect) as usize);
+    let gap = min(count as usize, width_of(rect) as usize);
     let end = rect.right as usize + 1;
     let below = rect.bottom as usize + 1;
     for line in (rect.top as usize)..below {
@@ -244,7 +244,7 @@ pub fn shift_right(screen: &mut [u8], rect: Rect, count: u8, fill: u8)
     requires { ⌜ OnScreen rect × (length (now screen) ≡ 1920) ⌝ }
     ensures { λ _. ⌜ now (screen .exit) ≡ edited rect (Motion.Right count) fill (now (screen .entry)) ⌝ }
 {
-    let gap = least(count as usize, width(rect) as usize);
+    let gap = min(count as usize, width_of(rect) as usize);
     let end = rect.right as usize + 1;
     let below = rect.bottom as usize + 1;
     for line in (rect.top as usize)..below {

@@ -37,35 +37,35 @@ fn after(at: Session, answer: Answer) -> Session {
 }
 
 // One write.
-pub fn hand_over(screen: &mut [u8], at: Session, bytes: &[u8]) -> Session {
+pub fn feed(screen: &mut [u8], at: Session, bytes: &[u8]) -> Session {
     after(at, write(at.port, screen, bytes))
 }
 
-fn least(a: usize, b: usize) -> usize
+fn min(a: usize, b: usize) -> usize
     ensures { λ r. ⌜ r ≡ min a b ⌝ }
 {
     if a < b { a } else { b }
 }
 
 // The bytes in writes of at most size bytes. No bytes are one empty write, which is judged as any other.
-pub fn hand_over_all(screen: &mut [u8], at: Session, bytes: &[u8], size: usize) -> Session
+pub fn feed_in_pieces(screen: &mut [u8], at: Session, bytes: &[u8], size: usize) -> Session
     requires { ⌜ 0 < size ⌝ }
 {
     if bytes.len() == 0 {
-        return hand_over(screen, at, bytes);
+        return feed(screen, at, bytes);
     }
     let mut now = at;
     let mut start = 0;
     while start < bytes.len() {
-        let end = start + least(size, bytes.len() - start);
-        now = hand_over(screen, now, &bytes[start..end]);
+        let end = start + min(size, bytes.len() - start);
+        now = feed(screen, now, &bytes[start..end]);
         start = end;
     }
     now
 }
 
 // The bytes one after another by the one-byte call, which changes a port where it lies.
-pub fn hand_over_bytes(screen: &mut [u8], at: Session, bytes: &[u8]) -> Session {
+pub fn feed_bytewise(screen: &mut [u8], at: Session, bytes: &[u8]) -> Session {
     let mut now = at;
     for i in 0..bytes.len() {
         now = after(now, put_byte_by_value(now.port, screen, bytes[i]));

@@ -10,7 +10,7 @@ use borrow.Author.Tests.{eqb-true, eqb-false, eq-eqb, ne-eqb}
 use Rattle.laws.proofs.Tests.{below?, Decides, decides-eq, decides-both, decides-if, decides-as, decides-four, decides-else, decides-either, decides-not}
 use Rattle.rectangle.specs.Rectangles.{Apart}
 use Rattle.rectangle.proofs.Overlaps.{Overlap, decides-overlap, overlap-apart, apart-overlap}
-use Rattle.port.specs.Valid.{Valid, ZeroPort}
+use Rattle.port.specs.Valid.{ValidPort, ZeroPort}
 use Rattle.port.proofs.Validity.{decides-valid, decides-zero-port, zero-port-is-zero}
 use Rattle.slots.specs.declared.Slot.{Slot}
 use Rattle.slots.specs.declared.Multiplexer.{Multiplexer}
@@ -19,7 +19,7 @@ use Rattle.slots.specs.Valid.{validSlot, compatible, validSlots, validMu
 
 -- ---- one slot, and two
 abbrev pub SlotFacts : Slot → Type 0
-SlotFacts x = (x .client ≡ 0 → ZeroPort (x .port)) × ((x .client ≡ 0 → ⊥) → Valid (x .port))
+SlotFacts x = (x .client ≡ 0 → ZeroPort (x .port)) × ((x .client ≡ 0 → ⊥) → ValidPort (x .port))
 
 pub decides-slot : (x : Slot) → Decides (validSlot x) (SlotFacts x)
 unfolding validSlot

@@ -5,14 +5,14 @@ use mathlib.Core.Bool.{Bool, cond, not, _&&_, _||_}
 use lib.Dec.{eqb}
 use lib.ListN.{length}
 use Rattle.rectangle.specs.Rectangles.{Apart, sharesCell}
-use Rattle.port.specs.Valid.{valid, Valid, isZeroPort, ZeroPort}
+use Rattle.port.specs.Valid.{validPort, ValidPort, isZeroPort, ZeroPort}
 use Rattle.slots.specs.declared.Slot.{Slot}
 use Rattle.slots.specs.declared.Multiplexer.{Multiplexer}
 use Rattle.slots.specs.State.{slotAt, pane, Open, Free}
 
 -- 'its open seats are sound .. and every field of a free seat holds 0 or false'
 unfoldable pub validSlot : Slot → Bool
-validSlot x = cond (eqb (x .client) 0) (isZeroPort (x .port)) (valid (x .port))
+validSlot x = cond (eqb (x .client) 0) (isZeroPort (x .port)) (validPort (x .port))
 
 -- two slots, where both are open, 'have different numbers .., and have panes (their homes) that share no cell'
 unfoldable pub compatible : Slot → Slot → Bool
@@ -33,7 +33,7 @@ validMultiplexer m = eqb (length (m .slots)) 4 && validSlots m
 
 pub record ValidMultiplexer (m : Multiplexer) : Type 0 where
   pub four : length (m .slots) ≡ 4
-  pub ports : (i : ℕ) → Open m i → Valid (slotAt m i .port)
+  pub ports : (i : ℕ) → Open m i → ValidPort (slotAt m i .port)
   pub clients : (i j : ℕ) → Open m i → Open m j → slotAt m i .client ≡ slotAt m j .client → i ≡ j
   pub panes : (i j : ℕ) → Open m i → Open m j → (i ≡ j → ⊥) → Apart (pane m i) (pane m j)
   pub free : (i : ℕ) → Free m i → ZeroPort (slotAt m i .port)

@@ -8,7 +8,7 @@ ghost use Rattle.slots.specs.State.{slotOf, hasClient};
 ghost use Rattle.slots.specs.Panes.{sharesPane, paneShared};
 
 // The place of a client's slot, or 4; that of 0 is the lowest free slot.
-pub fn find_client(m: Multiplexer, client: u8) -> usize
+pub fn slot_of(m: Multiplexer, client: u8) -> usize
     ensures { λ r. ⌜ r ≡ slotOf m client ⌝ }
 {
     if m.slots[0].client == client {
@@ -30,7 +30,7 @@ pub fn find_client(m: Multiplexer, client: u8) -> usize
 pub fn has_client(m: Multiplexer, client: u8) -> bool
     ensures { λ r. ⌜ r ≡ hasClient m client ⌝ }
 {
-    !(client == 0) & (find_client(m, client) < 4)
+    !(client == 0) & (slot_of(m, client) < 4)
 }
 
 fn shares_pane(pane: Rect, slot: Slot) -> bool

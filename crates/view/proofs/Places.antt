@@ -12,7 +12,7 @@ use Rattle.rectangle.specs.Rectangles.{OnScreen, rectOf}
 use Rattle.port.specs.declared.View.{View}
 use Rattle.port.specs.State.{cursorAt}
 use Rattle.port.specs.Effect.{becomes, moveEdit}
-use Rattle.port.specs.Codes.{setVertical, setHorizontal, gotoXY, inOffsetRange, resize, spaces, dleSpaceExpansion}
+use Rattle.port.specs.Codes.{setVertical, setHorizontal, gotoXY, inOffsetRange, resize, printSpaces, dleSpaceExpansion}
 use Rattle.view.specs.Place.{offsetFrom, spaceCount}
 
 -- $05: 256 is no byte, so the code takes from 255 and adds one
@@ -77,11 +77,11 @@ counted-none v b = none (v .flags .dle)
 pub and-le : (t : Bool) (n b : ℕ) → (t && leb n b) ≡ true → n ≤ b
 and-le t n b e = leb-true n b (and-right t (leb n b) e)
 
-pub spaces-are : (v : View) (b : ℕ) → spaces (spaceCount v b) v ≡ dleSpaceExpansion v b
-unfolding dleSpaceExpansion spaces spaceCount
+pub spaces-are : (v : View) (b : ℕ) → printSpaces (spaceCount v b) v ≡ dleSpaceExpansion v b
+unfolding dleSpaceExpansion printSpaces spaceCount
 spaces-are v b = chosen (v .flags .dle)
   where
-    chosen : (t : Bool) → spaces (cond t (b - 32) 0) v ≡ cond t (spaces (b - 32) v) (becomes v)
+    chosen : (t : Bool) → printSpaces (cond t (b - 32) 0) v ≡ cond t (printSpaces (b - 32) v) (becomes v)
     chosen true = refl
     chosen false = refl
 

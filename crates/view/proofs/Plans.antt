@@ -5,12 +5,12 @@ use Rattle.rectangle.specs.declared.Edit.{Edit}
 use Rattle.port.specs.declared.View.{View}
 use Rattle.port.specs.Effect.{becomes, draws}
 use Rattle.view.specs.declared.Moved.{Moved}
-use Rattle.view.specs.Plan.{effectOf, stillOf, onceOf}
+use Rattle.view.specs.Plan.{effectOf, still, once}
 
-pub still-is : {r : Moved} {u v : View} → r ≡ stillOf u → u ≡ v → effectOf r ≡ becomes v
+pub still-is : {r : Moved} {u v : View} → r ≡ still u → u ≡ v → effectOf r ≡ becomes v
 still-is p q = ap effectOf p ∙ ap becomes q
 
-pub once-is : {r : Moved} {u v : View} {d e : Edit} → r ≡ onceOf u d → u ≡ v → d ≡ e → effectOf r ≡ draws v (e ∷ [])
+pub once-is : {r : Moved} {u v : View} {d e : Edit} → r ≡ once u d → u ≡ v → d ≡ e → effectOf r ≡ draws v (e ∷ [])
 once-is p q s = ap effectOf p ∙ (λ i. draws (q i) (s i ∷ []))
 
 pub same-edits : {v : View} {ds es : List Edit} → ds ≡ es → draws v ds ≡ draws v es

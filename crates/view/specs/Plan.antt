@@ -19,8 +19,8 @@ abbrev pub planEffect : ViewPlan → Effect
 planEffect m = record { view = m .view; edits = changeList (m .first) ++ changeList (m .second) }
 
 -- the view alone, and with one edit
-abbrev pub stillOf : View → Moved
-stillOf v = record { view = v; change = Nothing }
+abbrev pub still : View → Moved
+still v = record { view = v; change = Nothing }
 
-abbrev pub onceOf : View → Edit → Moved
-onceOf v e = record { view = v; change = Draw e }
+abbrev pub once : View → Edit → Moved
+once v e = record { view = v; change = Draw e }

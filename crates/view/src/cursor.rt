@@ -1,29 +1,32 @@
-// Codes that move the cursor by one, and how printing moves it.
+// Codes that move the cursor and take no parameter, and how printing moves it.
 use super::Moved;
-use super::move_cells;
+use super::move_edit;
 use super::once;
 use super::still;
 use port::View;
 use port::state::cursor_at;
 use rectangle::Motion;
 ghost use mathlib.Core.Path.{_≡_};
-ghost use Rattle.port.specs.Codes.{moveCursorRight, backspace, lineFeed, moveCursorUp, carriageReturn, advanced};
+ghost use Rattle.port.specs.Codes.{moveCursorRight, backspace, lineFeed, moveCursorUp, carriageReturn, homeCursor, advance};
 ghost use Rattle.view.specs.Plan.{effectOf};
 
 // $1C.
 pub fn move_cursor_right(v: View) -> Moved
     ensures { λ r. ⌜ effectOf r ≡ moveCursorRight v ⌝ }
 {
-    let port = v.viewport;
+    let viewport = v.viewport;
     let flags = v.flags;
-    if v.column < port.right {
+    if v.column < viewport.right {
         return still(cursor_at(v, v.column + 1, v.line));
     }
-    if flags.wrap & (v.line < port.bottom) {
-        return still(cursor_at(v, port.left, v.line + 1));
+    if flags.wrap & (v.line < viewport.bottom) {
+        return still(cursor_at(v, viewport.left, v.line + 1));
     }
     if flags.wrap & flags.scroll {
-        return once(cursor_at(v, port.left, v.line), move_cells(v, Motion::Up));
+        return once(
+            cursor_at(v, viewport.left, v.line),
+            move_edit(v, Motion::Up),
+        );
     }
     still(v)
 }
@@ -32,18 +35,18 @@ pub fn move_cursor_right(v: View) -> Moved
 pub fn backspace(v: View) -> Moved
     ensures { λ r. ⌜ effectOf r ≡ backspace v ⌝ }
 {
-    let port = v.viewport;
+    let viewport = v.viewport;
     let flags = v.flags;
-    if port.left < v.column {
+    if viewport.left < v.column {
         return still(cursor_at(v, v.column - 1, v.line));
     }
-    if flags.wrap & (port.top < v.line) {
-        return still(cursor_at(v, port.right, v.line - 1));
+    if flags.wrap & (viewport.top < v.line) {
+        return still(cursor_at(v, viewport.right, v.line - 1));
     }
     if flags.wrap & flags.scroll {
         return once(
-            cursor_at(v, port.right, v.line),
-            move_cells(v, Motion::Down),
+            cursor_at(v, viewport.right, v.line),
+            move_edit(v, Motion::Down),
         );
     }
     still(v)
@@ -53,13 +56,13 @@ pub fn backspace(v: View) -> Moved
 pub fn line_feed(v: View) -> Moved
     ensures { λ r. ⌜ effectOf r ≡ lineFeed v ⌝ }
 {
-    let port = v.viewport;
+    let viewport = v.viewport;
     let flags = v.flags;
-    if v.line < port.bottom {
+    if v.line < viewport.bottom {
         return still(cursor_at(v, v.column, v.line + 1));
     }
     if flags.scroll {
-        return once(v, move_cells(v, Motion::Up));
+        return once(v, move_edit(v, Motion::Up));
     }
     still(v)
 }
@@ -68,13 +71,13 @@ pub fn line_feed(v: View) -> Moved
 pub fn move_cursor_up(v: View) -> Moved
     ensures { λ r. ⌜ effectOf r ≡ moveCursorUp v ⌝ }
 {
-    let port = v.viewport;
+    let viewport = v.viewport;
     let flags = v.flags;
-    if port.top < v.line {
+    if viewport.top < v.line {
         return still(cursor_at(v, v.column, v.line - 1));
     }
     if flags.scroll {
-        return once(v, move_cells(v, Motion::Down));
+        return once(v, move_edit(v, Motion::Down));
     }
     still(v)
 }
@@ -83,18 +86,26 @@ pub fn move_cursor_up(v: View) -> Moved
 pub fn carriage_return(v: View) -> Moved
     ensures { λ r. ⌜ effectOf r ≡ carriageReturn v ⌝ }
 {
-    let port = v.viewport;
+    let viewport = v.viewport;
     let flags = v.flags;
-    let start = cursor_at(v, port.left, v.line);
+    let start = cursor_at(v, viewport.left, v.line);
     if flags.lf {
         return line_feed(start);
     }
     still(start)
 }
 
+// $19: the cursor to the top left.
+pub fn home_cursor(v: View) -> View
+    ensures { λ r. ⌜ r ≡ homeCursor v ⌝ }
+{
+    let viewport = v.viewport;
+    cursor_at(v, viewport.left, viewport.top)
+}
+
 // What $1C does, if advance: what printing does after it stored a byte.
 pub fn advance(v: View) -> Moved
-    ensures { λ r. ⌜ effectOf r ≡ advanced v ⌝ }
+    ensures { λ r. ⌜ effectOf r ≡ advance v ⌝ }
 {
     let flags = v.flags;
     if flags.advance {

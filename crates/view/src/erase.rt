@@ -16,7 +16,7 @@ ghost use Rattle.port.specs.Codes.{clearFromLineStart, clearToLineEnd, clearLin
 ghost use Rattle.view.specs.Plan.{effectOf, planEffect};
 
 // A rectangle of the viewport is erased.
-fn erased(v: View, left: u8, top: u8, right: u8, bottom: u8) -> Edit
+fn erase_edit(v: View, left: u8, top: u8, right: u8, bottom: u8) -> Edit
     ensures { λ r. ⌜ r ≡ eraseEdit v (rectOf left top right bottom) ⌝ }
 {
     let fill = fill_byte(v);
@@ -36,34 +36,37 @@ fn erased(v: View, left: u8, top: u8, right: u8, bottom: u8) -> Edit
 pub fn clear_from_line_start(v: View) -> Moved
     ensures { λ r. ⌜ effectOf r ≡ clearFromLineStart v ⌝ }
 {
-    let port = v.viewport;
-    once(v, erased(v, port.left, v.line, v.column, v.line))
+    let viewport = v.viewport;
+    once(v, erase_edit(v, viewport.left, v.line, v.column, v.line))
 }
 
 // $1D: from the cursor to the right edge.
 pub fn clear_to_line_end(v: View) -> Moved
     ensures { λ r. ⌜ effectOf r ≡ clearToLineEnd v ⌝ }
 {
-    let port = v.viewport;
-    once(v, erased(v, v.column, v.line, port.right, v.line))
+    let viewport = v.viewport;
+    once(v, erase_edit(v, v.column, v.line, viewport.right, v.line))
 }
 
 // $1A: the cursor's line.
 pub fn clear_line(v: View) -> Moved
     ensures { λ r. ⌜ effectOf r ≡ clearLine v ⌝ }
 {
-    let port = v.viewport;
-    once(v, erased(v, port.left, v.line, port.right, v.line))
+    let viewport = v.viewport;
+    once(
+        v,
+        erase_edit(v, viewport.left, v.line, viewport.right, v.line),
+    )
 }
 
 // $13: the lines above the cursor's, and its own up to the cursor.
 pub fn clear_from_port_start(v: View) -> ViewPlan
     ensures { λ r. ⌜ planEffect r ≡ clearFromPortStart v ⌝ }
 {
-    let port = v.viewport;
-    let own = erased(v, port.left, v.line, v.column, v.line);
-    if port.top < v.line {
-        let above = erased(v, port.left, port.top, port.right, v.line - 1);
+    let viewport = v.viewport;
+    let own = erase_edit(v, viewport.left, v.line, v.column, v.line);
+    if viewport.top < v.line {
+        let above = erase_edit(v, viewport.left, viewport.top, viewport.right, v.line - 1);
         return ViewPlan {
             view: v,
             first: Change::Draw(above),
@@ -81,10 +84,16 @@ pub fn clear_from_port_start(v: View) -> ViewPlan
 pub fn clear_to_port_end(v: View) -> ViewPlan
     ensures { λ r. ⌜ planEffect r ≡ clearToPortEnd v ⌝ }
 {
-    let port = v.viewport;
-    let own = erased(v, v.column, v.line, port.right, v.line);
-    if v.line < port.bottom {
-        let below = erased(v, port.left, v.line + 1, port.right, port.bottom);
+    let viewport = v.viewport;
+    let own = erase_edit(v, v.column, v.line, viewport.right, v.line);
+    if v.line < viewport.bottom {
+        let below = erase_edit(
+            v,
+            viewport.left,
+            v.line + 1,
+            viewport.right,
+            viewport.bottom,
+        );
         return ViewPlan {
             view: v,
             first: Change::Draw(own),
@@ -102,7 +111,13 @@ pub fn clear_to_port_end(v: View) -> ViewPlan
 pub fn clear_port_and_home(v: View) -> Moved
     ensures { λ r. ⌜ effectOf r ≡ clearPortAndHome v ⌝ }
 {
-    let port = v.viewport;
-    let whole = erased(v, port.left, port.top, port.right, port.bottom);
-    once(cursor_at(v, port.left, port.top), whole)
+    let viewport = v.viewport;
+    let whole = erase_edit(
+        v,
+        viewport.left,
+        viewport.top,
+        viewport.right,
+        viewport.bottom,
+    );
+    once(cursor_at(v, viewport.left, viewport.top), whole)
 }

@@ -15,7 +15,7 @@ ghost use mathlib.Core.Path.{_≡_};
 ghost use Prim.Native.Nat.{min};
 ghost use Rattle.port.specs.Effect.{fillByte, moveEdit};
 ghost use Rattle.port.specs.Codes.{modeOf, setNormal, setInverse, enableMouseText, disableMouseText, setCursorMovement, scrollDown, scrollUp};
-ghost use Rattle.view.specs.Plan.{effectOf, stillOf, onceOf};
+ghost use Rattle.view.specs.Plan.{effectOf, still, once};
 ghost use Rattle.view.specs.Place.{spaceCount};
 
 // At most one edit.
@@ -38,7 +38,7 @@ pub struct ViewPlan {
 }
 
 pub fn still(view: View) -> Moved
-    ensures { λ r. ⌜ r ≡ stillOf view ⌝ }
+    ensures { λ r. ⌜ r ≡ still view ⌝ }
 {
     Moved {
         view,
@@ -47,7 +47,7 @@ pub fn still(view: View) -> Moved
 }
 
 pub fn once(view: View, edit: Edit) -> Moved
-    ensures { λ r. ⌜ r ≡ onceOf view edit ⌝ }
+    ensures { λ r. ⌜ r ≡ once view edit ⌝ }
 {
     Moved {
         view,
@@ -63,7 +63,7 @@ pub fn fill_byte(v: View) -> u8
 }
 
 // The viewport's cells move.
-pub fn move_cells(v: View, motion: Motion) -> Edit
+pub fn move_edit(v: View, motion: Motion) -> Edit
     ensures { λ r. ⌜ r ≡ moveEdit v motion ⌝ }
 {
     let rect = v.viewport;
@@ -75,17 +75,17 @@ pub fn move_cells(v: View, motion: Motion) -> Edit
 pub fn scroll_down(v: View) -> Moved
     ensures { λ r. ⌜ effectOf r ≡ scrollDown v ⌝ }
 {
-    once(v, move_cells(v, Motion::Down))
+    once(v, move_edit(v, Motion::Down))
 }
 
 // $17.
 pub fn scroll_up(v: View) -> Moved
     ensures { λ r. ⌜ effectOf r ≡ scrollUp v ⌝ }
 {
-    once(v, move_cells(v, Motion::Up))
+    once(v, move_edit(v, Motion::Up))
 }
 
-pub fn least(a: u8, b: u8) -> u8
+pub fn min(a: u8, b: u8) -> u8
     ensures { λ r. ⌜ r ≡ min a b ⌝ }
 {
     if a < b { a } else { b }

@@ -1,7 +1,7 @@
 // Codes whose parameters place the cursor, the viewport or the viewport's cells.
 use super::Moved;
-use super::least;
-use super::move_cells;
+use super::min;
+use super::move_edit;
 use super::once;
 use super::still;
 use port::View;
@@ -12,7 +12,7 @@ use rectangle::Rect;
 ghost use mathlib.Core.Path.{_≡_};
 ghost use Prim.Native.Nat.{_≤_, max};
 ghost use Rattle.rectangle.specs.Rectangles.{OnScreen};
-ghost use Rattle.port.specs.Codes.{horizontalScroll, setVertical, setHorizontal, gotoXY, homeCursor, inOffsetRange, nearestInside, resize, setPortSize};
+ghost use Rattle.port.specs.Codes.{horizontalScroll, setVertical, setHorizontal, gotoXY, inOffsetRange, nearestInside, resize, setPortSize};
 ghost use Rattle.view.specs.Plan.{effectOf};
 ghost use Rattle.view.specs.Place.{offsetFrom};
 
@@ -24,9 +24,9 @@ pub fn horizontal_scroll(v: View, b: u8) -> Moved
         return still(v);
     }
     if b < 128 {
-        return once(v, move_cells(v, Motion::Right(b)));
+        return once(v, move_edit(v, Motion::Right(b)));
     }
-    once(v, move_cells(v, Motion::Left(255 - b + 1)))
+    once(v, move_edit(v, Motion::Left(255 - b + 1)))
 }
 
 // A parameter names a line or column by its distance from low, + 32; past the last it is the last. Below 32 it names none, and the cursor's own stays.
@@ -38,7 +38,7 @@ fn offset_from(low: u8, high: u8, own: u8, b: u8) -> u8
     if b < 32 {
         return own;
     }
-    low + least(b - 32, high - low)
+    low + min(b - 32, high - low)
 }
 
 // $06: a line of the viewport + 32.
@@ -46,8 +46,12 @@ pub fn set_vertical(v: View, b: u8) -> View
     requires { ⌜ OnScreen (v .viewport) ⌝ }
     ensures { λ r. ⌜ r ≡ setVertical v b ⌝ }
 {
-    let port = v.viewport;
-    cursor_at(v, v.column, offset_from(port.top, port.bottom, v.line, b))
+    let viewport = v.viewport;
+    cursor_at(
+        v,
+        v.column,
+        offset_from(viewport.top, viewport.bottom, v.line, b),
+    )
 }
 
 // $14: a column of the viewport + 32.
@@ -55,8 +59,12 @@ pub fn set_horizontal(v: View, b: u8) -> View
     requires { ⌜ OnScreen (v .viewport) ⌝ }
     ensures { λ r. ⌜ r ≡ setHorizontal v b ⌝ }
 {
-    let port = v.viewport;
-    cursor_at(v, offset_from(port.left, port.right, v.column, b), v.line)
+    let viewport = v.viewport;
+    cursor_at(
+        v,
+        offset_from(viewport.left, viewport.right, v.column, b),
+        v.line,
+    )
 }
 
 fn in_offset_range(b: u8) -> bool
@@ -65,18 +73,18 @@ fn in_offset_range(b: u8) -> bool
     (32 <= b) & (b <= 127)
 }
 
-fn greatest(a: u8, b: u8) -> u8
+fn max(a: u8, b: u8) -> u8
     ensures { λ r. ⌜ r ≡ max a b ⌝ }
 {
     if a < b { b } else { a }
 }
 
 // The column or line of home that is nearest to a parameter's value.
-fn nearest(low: u8, high: u8, b: u8) -> u8
+fn nearest_inside(low: u8, high: u8, b: u8) -> u8
     requires { ⌜ 32 ≤ b ⌝ }
     ensures { λ r. ⌜ r ≡ nearestInside low high b ⌝ }
 {
-    greatest(low, least(b - 32, high))
+    max(low, min(b - 32, high))
 }
 
 // A new viewport, with the cursor at its top left; nothing changes where it is no more than one column or line.
@@ -98,10 +106,10 @@ pub fn set_port_size(home: Rect, v: View, left: u8, top: u8, right: u8, bottom: 
         & (in_offset_range(right) & in_offset_range(bottom))
     {
         let rect = Rect {
-            left: nearest(home.left, home.right, left),
-            top: nearest(home.top, home.bottom, top),
-            right: nearest(home.left, home.right, right),
-            bottom: nearest(home.top, home.bottom, bottom),
+            left: nearest_inside(home.left, home.right, left),
+            top: nearest_inside(home.top, home.bottom, top),
+            right: nearest_inside(home.left, home.right, right),
+            bottom: nearest_inside(home.top, home.bottom, bottom),
         };
         resize(v, rect)
     } else {
@@ -115,12 +123,4 @@ pub fn goto_xy(v: View, column: u8, line: u8) -> View
     ensures { λ r. ⌜ r ≡ gotoXY v column line ⌝ }
 {
     set_vertical(set_horizontal(v, column), line)
-}
-
-// $19: the cursor to the top left.
-pub fn home_cursor(v: View) -> View
-    ensures { λ r. ⌜ r ≡ homeCursor v ⌝ }
-{
-    let port = v.viewport;
-    cursor_at(v, port.left, port.top)
 }

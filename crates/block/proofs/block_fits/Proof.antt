@@ -15,22 +15,22 @@ shared-slice-read-result : tie.Need-shared-slice-read-result
 unfolding blockLength
 shared-slice-read-result c = omega arith
 
-width-requires : tie.Need-width-requires
-width-requires c κs = search needs
+width-of-requires : tie.Need-width-of-requires
+width-of-requires c κs = search needs
 
 shared-slice-read-result-2 : tie.Need-shared-slice-read-result-2
 unfolding blockLength
 shared-slice-read-result-2 c = omega arith
 
-height-requires : tie.Need-height-requires
-height-requires c κs = search needs
+height-of-requires : tie.Need-height-of-requires
+height-of-requires c κs = search needs
 
 returns : tie.Need-returns
 unfolding blockFits
 returns c =
     let a = c .before .before .before .before .before .before .before .args in
     let sized = eq-eqb (length (a .block .now)) (blockLength (a .rect)) (omega arith) in
-    rw (sized, c .before .before .width .ensures, c .height .ensures)
+    rw (sized, c .before .before .width-of .ensures, c .height-of .ensures)
 
 returns-2 : tie.Need-returns-2
 unfolding blockFits
@@ -44,8 +44,8 @@ block-fits-spec =
     (tie.spec
     block-length-requires
     shared-slice-read-result
-    width-requires
+    width-of-requires
     shared-slice-read-result-2
-    height-requires
+    height-of-requires
     returns
     returns-2)

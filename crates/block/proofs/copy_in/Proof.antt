@@ -17,14 +17,14 @@ Inv-loop screen₀ rect block count lines left top row₀ screen row = (row ≤ 
 abbrev μ-loop : tie.MeasureT-loop
 μ-loop screen₀ rect block count lines left top row₀ screen row = lines - row
 
-width-requires : tie.Need-width-requires Inv-loop μ-loop
-width-requires c κs = search needs
+width-of-requires : tie.Need-width-of-requires Inv-loop μ-loop
+width-of-requires c κs = search needs
 
 cast-count : tie.Need-cast-count Inv-loop μ-loop
 cast-count c = omega arith
 
-height-requires : tie.Need-height-requires Inv-loop μ-loop
-height-requires c κs = search needs
+height-of-requires : tie.Need-height-of-requires Inv-loop μ-loop
+height-of-requires c κs = search needs
 
 cast-lines : tie.Need-cast-lines Inv-loop μ-loop
 cast-lines c = omega arith
@@ -77,9 +77,9 @@ copy-in-spec =
     (tie.spec
     Inv-loop
     μ-loop
-    width-requires
+    width-of-requires
     cast-count
-    height-requires
+    height-of-requires
     cast-lines
     cast-left
     cast-top

@@ -18,11 +18,11 @@ Inv-loop screen rect block₀ columns lines count left top row₀ row-end block 
 abbrev μ-loop : tie.MeasureT-loop
 μ-loop screen rect block₀ columns lines count left top row₀ row-end block row = row-end - row
 
-width-requires : tie.Need-width-requires Inv-loop μ-loop
-width-requires c κs = search needs
+width-of-requires : tie.Need-width-of-requires Inv-loop μ-loop
+width-of-requires c κs = search needs
 
-height-requires : tie.Need-height-requires Inv-loop μ-loop
-height-requires c κs = search needs
+height-of-requires : tie.Need-height-of-requires Inv-loop μ-loop
+height-of-requires c κs = search needs
 
 slice-write-block : tie.Need-slice-write-block Inv-loop μ-loop
 unfolding blockLength
@@ -86,8 +86,8 @@ copy-out-spec =
     (tie.spec
     Inv-loop
     μ-loop
-    width-requires
-    height-requires
+    width-of-requires
+    height-of-requires
     slice-write-block
     slice-write-block-2
     cast-count

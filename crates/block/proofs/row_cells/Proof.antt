@@ -13,8 +13,8 @@ cast-part-of-line-2 c = search needs
 add-part-of-line : tie.Need-add-part-of-line
 add-part-of-line c = search needs
 
-width-requires : tie.Need-width-requires
-width-requires c κs = search needs
+width-of-requires : tie.Need-width-of-requires
+width-of-requires c κs = search needs
 
 cast-part-of-line-3 : tie.Need-cast-part-of-line-3
 cast-part-of-line-3 c = search needs
@@ -33,7 +33,7 @@ row-cells-spec =
     cast-part-of-line
     cast-part-of-line-2
     add-part-of-line
-    width-requires
+    width-of-requires
     cast-part-of-line-3
     part-of-line-requires
     returns)

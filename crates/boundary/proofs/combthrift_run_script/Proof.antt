@@ -19,17 +19,17 @@ fresh-multiplexer-requires c κs = search needs
 loop-holds : tie.Need-loop-holds Inv-loop μ-loop
 loop-holds c = search needs
 
-sub-make-next : tie.Need-sub-make-next Inv-loop μ-loop
-sub-make-next c = search needs
+sub-serve-next : tie.Need-sub-serve-next Inv-loop μ-loop
+sub-serve-next c = search needs
 
-part-make-next-start : tie.Need-part-make-next-start Inv-loop μ-loop
-part-make-next-start c = search needs
+part-serve-next-start : tie.Need-part-serve-next-start Inv-loop μ-loop
+part-serve-next-start c = search needs
 
-part-make-next-end : tie.Need-part-make-next-end Inv-loop μ-loop
-part-make-next-end c = search needs
+part-serve-next-end : tie.Need-part-serve-next-end Inv-loop μ-loop
+part-serve-next-end c = search needs
 
-make-next-requires : tie.Need-make-next-requires Inv-loop μ-loop
-make-next-requires c κs = search needs
+serve-next-requires : tie.Need-serve-next-requires Inv-loop μ-loop
+serve-next-requires c κs = search needs
 
 same-length : tie.Need-same-length Inv-loop μ-loop
 same-length c = search needs
@@ -57,10 +57,10 @@ combthrift-run-script-spec =
     μ-loop
     fresh-multiplexer-requires
     loop-holds
-    sub-make-next
-    part-make-next-start
-    part-make-next-end
-    make-next-requires
+    sub-serve-next
+    part-serve-next-start
+    part-serve-next-end
+    serve-next-requires
     same-length
     same-length-2
     returns

@@ -1,11 +1,11 @@
--- `calls::write` meets its contract: what `carry_stream` leaves is what the definition draws. Assumes nothing.
+-- `calls::write` meets its contract: what `execute_stream` leaves is what the definition draws. Assumes nothing.
 use borrow.Author.Needs.{needs}
 use Rattle.calls.proofs.Replying.{replies-written}
 use Rattle.calls.proofs.write.Statement.{statement}
 use Rattle.calls.proofs.write.Tie as tie
 
-carry-stream-requires : tie.Need-carry-stream-requires
-carry-stream-requires c κs = search needs
+execute-stream-requires : tie.Need-execute-stream-requires
+execute-stream-requires c κs = search needs
 
 answer-of-requires : tie.Need-answer-of-requires
 answer-of-requires c κs = search needs
@@ -17,4 +17,4 @@ returns : tie.Need-returns
 returns c = search replies-written
 
 pub write-spec : {M : Type 1} → statement M
-write-spec = tie.close (tie.spec carry-stream-requires answer-of-requires same-length returns)
+write-spec = tie.close (tie.spec execute-stream-requires answer-of-requires same-length returns)

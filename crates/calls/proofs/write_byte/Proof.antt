@@ -1,11 +1,11 @@
--- `calls::write_byte` meets its contract: what `carry_single` leaves is what the definition draws. Assumes nothing.
+-- `calls::write_byte` meets its contract: what `execute_byte` leaves is what the definition draws. Assumes nothing.
 use borrow.Author.Needs.{needs}
 use Rattle.calls.proofs.Replying.{replies-written}
 use Rattle.calls.proofs.write_byte.Statement.{statement}
 use Rattle.calls.proofs.write_byte.Tie as tie
 
-carry-single-requires : tie.Need-carry-single-requires
-carry-single-requires c κs = search needs
+execute-byte-requires : tie.Need-execute-byte-requires
+execute-byte-requires c κs = search needs
 
 answer-of-requires : tie.Need-answer-of-requires
 answer-of-requires c κs = search needs
@@ -17,4 +17,4 @@ returns : tie.Need-returns
 returns c = search replies-written
 
 pub write-byte-spec : {M : Type 1} → statement M
-write-byte-spec = tie.close (tie.spec carry-single-requires answer-of-requires same-length returns)
+write-byte-spec = tie.close (tie.spec execute-byte-requires answer-of-requires same-length returns)

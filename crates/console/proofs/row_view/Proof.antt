@@ -4,8 +4,8 @@ use Rattle.console.proofs.Replying.{acceptances, row-refused, row-past,
 use Rattle.console.proofs.row_view.Statement.{statement}
 use Rattle.console.proofs.row_view.Tie as tie
 
-judge-requires : tie.Need-judge-requires
-judge-requires c κs = search needs
+plain-verdict-requires : tie.Need-plain-verdict-requires
+plain-verdict-requires c κs = search needs
 
 enum-told : tie.Need-enum-told
 enum-told c = search needs
@@ -16,8 +16,8 @@ no-cells-requires c κs = search needs
 enum-told-2 : tie.Need-enum-told-2
 enum-told-2 c = search needs
 
-height-requires : tie.Need-height-requires
-height-requires c κs = search (acceptances, needs)
+height-of-requires : tie.Need-height-of-requires
+height-of-requires c κs = search (acceptances, needs)
 
 cast-if1 : tie.Need-cast-if1
 cast-if1 c = search needs
@@ -41,11 +41,11 @@ pub row-view-spec : {M : Type 1} → statement M
 row-view-spec =
     tie.close
     (tie.spec
-    judge-requires
+    plain-verdict-requires
     enum-told
     no-cells-requires
     enum-told-2
-    height-requires
+    height-of-requires
     cast-if1
     row-cells-requires
     returns

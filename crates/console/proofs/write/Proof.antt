@@ -4,11 +4,11 @@ use Rattle.console.proofs.Replying.{acceptances, replies-refused, repli
 use Rattle.console.proofs.write.Statement.{statement}
 use Rattle.console.proofs.write.Tie as tie
 
-judge-requires : tie.Need-judge-requires
-judge-requires c κs = search needs
+plain-verdict-requires : tie.Need-plain-verdict-requires
+plain-verdict-requires c κs = search needs
 
-enum-known-judged : tie.Need-enum-known-judged
-enum-known-judged c = search needs
+enum-known-verdict : tie.Need-enum-known-verdict
+enum-known-verdict c = search needs
 
 answer-of-requires : tie.Need-answer-of-requires
 answer-of-requires c κs = search needs
@@ -32,8 +32,8 @@ pub write-spec : {M : Type 1} → statement M
 write-spec =
     tie.close
     (tie.spec
-    judge-requires
-    enum-known-judged
+    plain-verdict-requires
+    enum-known-verdict
     answer-of-requires
     enum-told
     write-requires

@@ -4,11 +4,11 @@ use Rattle.console.proofs.Replying.{acceptances, replies-refused, repli
 use Rattle.console.proofs.write_byte.Statement.{statement}
 use Rattle.console.proofs.write_byte.Tie as tie
 
-judge-inlined-requires : tie.Need-judge-inlined-requires
-judge-inlined-requires c κs = search needs
+plain-verdict-inlined-requires : tie.Need-plain-verdict-inlined-requires
+plain-verdict-inlined-requires c κs = search needs
 
-enum-known-judged : tie.Need-enum-known-judged
-enum-known-judged c = search needs
+enum-known-verdict : tie.Need-enum-known-verdict
+enum-known-verdict c = search needs
 
 answer-of-requires : tie.Need-answer-of-requires
 answer-of-requires c κs = search needs
@@ -32,8 +32,8 @@ pub write-byte-spec : {M : Type 1} → statement M
 write-byte-spec =
     tie.close
     (tie.spec
-    judge-inlined-requires
-    enum-known-judged
+    plain-verdict-inlined-requires
+    enum-known-verdict
     answer-of-requires
     enum-told
     write-byte-requires

@@ -19,8 +19,8 @@ returns-2 : tie.Need-returns-2
 unfolding freeSlotFor
 returns-2 c = search chain
 
-find-client-requires : tie.Need-find-client-requires
-find-client-requires c κs = search needs
+slot-of-requires : tie.Need-slot-of-requires
+slot-of-requires c κs = search needs
 
 returns-3 : tie.Need-returns-3
 unfolding freeSlotFor
@@ -38,6 +38,6 @@ free-slot-for-spec =
     returns
     pane-shared-requires
     returns-2
-    find-client-requires
+    slot-of-requires
     returns-3
     returns-4)

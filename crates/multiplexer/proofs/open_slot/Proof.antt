@@ -12,12 +12,12 @@ returns : tie.Need-returns
 unfolding openSlot
 returns c = search chain
 
-find-client-requires : tie.Need-find-client-requires
-find-client-requires c κs = search needs
+slot-of-requires : tie.Need-slot-of-requires
+slot-of-requires c κs = search needs
 
 returns-2 : tie.Need-returns-2
 unfolding openSlot
 returns-2 c = search chain
 
 pub open-slot-spec : {M : Type 1} → statement M
-open-slot-spec = tie.close (tie.spec has-client-requires returns find-client-requires returns-2)
+open-slot-spec = tie.close (tie.spec has-client-requires returns slot-of-requires returns-2)

@@ -16,14 +16,14 @@ Inv-loop screen₀ rect count fill gap end below line₀ screen line = (rect .to
 abbrev μ-loop : tie.MeasureT-loop
 μ-loop screen₀ rect count fill gap end below line₀ screen line = below - line
 
-width-requires : tie.Need-width-requires Inv-loop μ-loop
-width-requires c κs = search needs
+width-of-requires : tie.Need-width-of-requires Inv-loop μ-loop
+width-of-requires c κs = search needs
 
-cast-least : tie.Need-cast-least Inv-loop μ-loop
-cast-least c = search needs
+cast-min : tie.Need-cast-min Inv-loop μ-loop
+cast-min c = search needs
 
-least-requires : tie.Need-least-requires Inv-loop μ-loop
-least-requires c κs = search needs
+min-requires : tie.Need-min-requires Inv-loop μ-loop
+min-requires c κs = search needs
 
 cast-end : tie.Need-cast-end Inv-loop μ-loop
 cast-end c = omega arith
@@ -70,7 +70,7 @@ loop-less c = omega arith
 loop-again : tie.Need-loop-again Inv-loop μ-loop
 loop-again c =
     let walk = c .before .before .before .before .before .before .before .before .before .before .before .before .loop .inv .2 in
-    let gap = c .before .before .before .before .before .before .before .before .before .before .before .before .before .before .before .before .least .result in
+    let gap = c .before .before .before .before .before .before .before .before .before .before .before .before .before .before .before .before .min .result in
     let moves = c .before .before .before .before .before .before .push-run .ensures in (
       omega arith,
       omega arith,
@@ -89,9 +89,9 @@ shift-right-spec =
     (tie.spec
     Inv-loop
     μ-loop
-    width-requires
-    cast-least
-    least-requires
+    width-of-requires
+    cast-min
+    min-requires
     cast-end
     add-end
     cast-below

@@ -15,11 +15,11 @@ Inv-loop screen₀ column line room table mode bytes from most n₀ screen n = (
 abbrev μ-loop : tie.MeasureT-loop
 μ-loop screen₀ column line room table mode bytes from most n₀ screen n = most - n
 
-sub-least : tie.Need-sub-least Inv-loop μ-loop
-sub-least c = search needs
+sub-min : tie.Need-sub-min Inv-loop μ-loop
+sub-min c = search needs
 
-least-requires : tie.Need-least-requires Inv-loop μ-loop
-least-requires c κs = search needs
+min-requires : tie.Need-min-requires Inv-loop μ-loop
+min-requires c κs = search needs
 
 loop-holds : tie.Need-loop-holds Inv-loop μ-loop
 loop-holds c = (search needs, none-stored _ _ _ _ _ _ _ (omega arith))
@@ -71,8 +71,8 @@ store-run-spec =
     (tie.spec
     Inv-loop
     μ-loop
-    sub-least
-    least-requires
+    sub-min
+    min-requires
     loop-holds
     add-code
     shared-slice-read-code

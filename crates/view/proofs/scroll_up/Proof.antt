@@ -4,8 +4,8 @@ use Rattle.view.proofs.Plans.{plans}
 use Rattle.view.proofs.scroll_up.Statement.{statement}
 use Rattle.view.proofs.scroll_up.Tie as tie
 
-move-cells-requires : tie.Need-move-cells-requires
-move-cells-requires c κs = search needs
+move-edit-requires : tie.Need-move-edit-requires
+move-edit-requires c κs = search needs
 
 once-requires : tie.Need-once-requires
 once-requires c κs = search needs
@@ -14,4 +14,4 @@ returns : tie.Need-returns
 returns c = search plans
 
 pub scroll-up-spec : {M : Type 1} → statement M
-scroll-up-spec = tie.close (tie.spec move-cells-requires once-requires returns)
+scroll-up-spec = tie.close (tie.spec move-edit-requires once-requires returns)

@@ -1,7 +1,7 @@
 -- `executor::saved::obey_on_saved` meets its contract: $01, or else $04. Assumes nothing.
 use borrow.Author.Needs.{needs}
 use Rattle.port.specs.Step.{control}
-use Rattle.executor.proofs.Carrying.{saves-as, other-saves}
+use Rattle.executor.proofs.Executing.{saves-as, other-saves}
 use Rattle.executor.proofs.saved.obey_on_saved.Statement.{statement}
 use Rattle.executor.proofs.saved.obey_on_saved.Tie as tie
 

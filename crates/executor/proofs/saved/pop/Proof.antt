@@ -2,7 +2,7 @@
 use borrow.Author.Needs.{needs}
 use Rattle.laws.proofs.Choices.{choices}
 use Rattle.port.specs.Step.{pop}
-use Rattle.executor.proofs.Carrying.{in-view}
+use Rattle.executor.proofs.Executing.{in-view}
 use Rattle.executor.proofs.saved.pop.Statement.{statement}
 use Rattle.executor.proofs.saved.pop.Tie as tie
 

@@ -1,6 +1,6 @@
 -- `port::valid::valid_port` meets its contract: the definition's tests, by what each call returns. Assumes nothing.
 use borrow.Author.Needs.{needs}
-use Rattle.port.specs.Valid.{valid}
+use Rattle.port.specs.Valid.{validPort}
 use Rattle.port.proofs.valid.valid_port.Statement.{statement}
 use Rattle.port.proofs.valid.valid_port.Tie as tie
 
@@ -17,7 +17,7 @@ valid-wait-requires : tie.Need-valid-wait-requires
 valid-wait-requires c κs = search needs
 
 returns : tie.Need-returns
-unfolding valid
+unfolding validPort
 returns c = (cc)
 
 pub valid-port-spec : {M : Type 1} → statement M

@@ -1,6 +1,6 @@
 -- `port::valid::valid_port_inlined` meets its contract, as `valid_port` does. Assumes nothing.
 use borrow.Author.Needs.{needs}
-use Rattle.port.specs.Valid.{valid}
+use Rattle.port.specs.Valid.{validPort}
 use Rattle.port.proofs.valid.valid_port_inlined.Statement.{statement}
 use Rattle.port.proofs.valid.valid_port_inlined.Tie as tie
 
@@ -17,7 +17,7 @@ valid-wait-requires : tie.Need-valid-wait-requires
 valid-wait-requires c κs = search needs
 
 returns : tie.Need-returns
-unfolding valid
+unfolding validPort
 returns c = (cc)
 
 pub valid-port-inlined-spec : {M : Type 1} → statement M

@@ -4,12 +4,12 @@ use Rattle.slots.specs.State.{hasClient}
 use Rattle.slots.proofs.lookup.has_client.Statement.{statement}
 use Rattle.slots.proofs.lookup.has_client.Tie as tie
 
-find-client-requires : tie.Need-find-client-requires
-find-client-requires c κs = search needs
+slot-of-requires : tie.Need-slot-of-requires
+slot-of-requires c κs = search needs
 
 returns : tie.Need-returns
 unfolding hasClient
 returns c = (cc)
 
 pub has-client-spec : {M : Type 1} → statement M
-has-client-spec = tie.close (tie.spec find-client-requires returns)
+has-client-spec = tie.close (tie.spec slot-of-requires returns)

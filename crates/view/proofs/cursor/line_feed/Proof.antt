@@ -19,8 +19,8 @@ returns : tie.Need-returns
 unfolding lineFeed
 returns c = search (choices, plans)
 
-move-cells-requires : tie.Need-move-cells-requires
-move-cells-requires c κs = search needs
+move-edit-requires : tie.Need-move-edit-requires
+move-edit-requires c κs = search needs
 
 once-requires : tie.Need-once-requires
 once-requires c κs = search needs
@@ -44,7 +44,7 @@ line-feed-spec =
     cursor-at-requires
     still-requires
     returns
-    move-cells-requires
+    move-edit-requires
     once-requires
     returns-2
     still-requires-2

@@ -38,8 +38,8 @@ returns-2 c = search (choices, plans)
 cursor-at-requires-3 : tie.Need-cursor-at-requires-3
 cursor-at-requires-3 c κs = search needs
 
-move-cells-requires : tie.Need-move-cells-requires
-move-cells-requires c κs = search needs
+move-edit-requires : tie.Need-move-edit-requires
+move-edit-requires c κs = search needs
 
 once-requires : tie.Need-once-requires
 once-requires c κs = search needs
@@ -68,7 +68,7 @@ move-cursor-right-spec =
     still-requires-2
     returns-2
     cursor-at-requires-3
-    move-cells-requires
+    move-edit-requires
     once-requires
     returns-3
     still-requires-3

@@ -6,14 +6,14 @@ use Rattle.view.proofs.Plans.{same-edits}
 use Rattle.view.proofs.erase.clear_from_port_start.Statement.{statement}
 use Rattle.view.proofs.erase.clear_from_port_start.Tie as tie
 
-erased-requires : tie.Need-erased-requires
-erased-requires c κs = search needs
+erase-edit-requires : tie.Need-erase-edit-requires
+erase-edit-requires c κs = search needs
 
-sub-erased : tie.Need-sub-erased
-sub-erased c = search needs
+sub-erase-edit : tie.Need-sub-erase-edit
+sub-erase-edit c = search needs
 
-erased-requires-2 : tie.Need-erased-requires-2
-erased-requires-2 c κs = search needs
+erase-edit-requires-2 : tie.Need-erase-edit-requires-2
+erase-edit-requires-2 c κs = search needs
 
 returns : tie.Need-returns
 unfolding clearFromPortStart clearLinesAbove
@@ -25,4 +25,4 @@ returns-2 c = search (choices, appended, same-edits)
 
 pub clear-from-port-start-spec : {M : Type 1} → statement M
 clear-from-port-start-spec =
-    tie.close (tie.spec erased-requires sub-erased erased-requires-2 returns returns-2)
+    tie.close (tie.spec erase-edit-requires sub-erase-edit erase-edit-requires-2 returns returns-2)

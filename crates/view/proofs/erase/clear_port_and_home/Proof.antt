@@ -5,8 +5,8 @@ use Rattle.view.proofs.Plans.{plans}
 use Rattle.view.proofs.erase.clear_port_and_home.Statement.{statement}
 use Rattle.view.proofs.erase.clear_port_and_home.Tie as tie
 
-erased-requires : tie.Need-erased-requires
-erased-requires c κs = search needs
+erase-edit-requires : tie.Need-erase-edit-requires
+erase-edit-requires c κs = search needs
 
 cursor-at-requires : tie.Need-cursor-at-requires
 cursor-at-requires c κs = search needs
@@ -19,4 +19,4 @@ returns c = search plans
 
 pub clear-port-and-home-spec : {M : Type 1} → statement M
 clear-port-and-home-spec =
-    tie.close (tie.spec erased-requires cursor-at-requires once-requires returns)
+    tie.close (tie.spec erase-edit-requires cursor-at-requires once-requires returns)

@@ -6,14 +6,14 @@ use Rattle.view.proofs.Plans.{same-edits}
 use Rattle.view.proofs.erase.clear_to_port_end.Statement.{statement}
 use Rattle.view.proofs.erase.clear_to_port_end.Tie as tie
 
-erased-requires : tie.Need-erased-requires
-erased-requires c κs = search needs
+erase-edit-requires : tie.Need-erase-edit-requires
+erase-edit-requires c κs = search needs
 
-add-erased : tie.Need-add-erased
-add-erased c = search needs
+add-erase-edit : tie.Need-add-erase-edit
+add-erase-edit c = search needs
 
-erased-requires-2 : tie.Need-erased-requires-2
-erased-requires-2 c κs = search needs
+erase-edit-requires-2 : tie.Need-erase-edit-requires-2
+erase-edit-requires-2 c κs = search needs
 
 returns : tie.Need-returns
 unfolding clearToPortEnd clearLinesBelow
@@ -25,4 +25,4 @@ returns-2 c = search (choices, same-edits)
 
 pub clear-to-port-end-spec : {M : Type 1} → statement M
 clear-to-port-end-spec =
-    tie.close (tie.spec erased-requires add-erased erased-requires-2 returns returns-2)
+    tie.close (tie.spec erase-edit-requires add-erase-edit erase-edit-requires-2 returns returns-2)

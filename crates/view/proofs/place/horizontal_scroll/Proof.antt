@@ -15,8 +15,8 @@ returns : tie.Need-returns
 unfolding horizontalScroll
 returns c = search (choices, plans)
 
-move-cells-requires : tie.Need-move-cells-requires
-move-cells-requires c κs = search needs
+move-edit-requires : tie.Need-move-edit-requires
+move-edit-requires c κs = search needs
 
 once-requires : tie.Need-once-requires
 once-requires c κs = search needs
@@ -31,8 +31,8 @@ sub-t7 c = search needs
 add-t8 : tie.Need-add-t8
 add-t8 c = search needs
 
-move-cells-requires-2 : tie.Need-move-cells-requires-2
-move-cells-requires-2 c κs = search needs
+move-edit-requires-2 : tie.Need-move-edit-requires-2
+move-edit-requires-2 c κs = search needs
 
 once-requires-2 : tie.Need-once-requires-2
 once-requires-2 c κs = search needs
@@ -47,11 +47,11 @@ horizontal-scroll-spec =
     (tie.spec
     still-requires
     returns
-    move-cells-requires
+    move-edit-requires
     once-requires
     returns-2
     sub-t7
     add-t8
-    move-cells-requires-2
+    move-edit-requires-2
     once-requires-2
     returns-3)

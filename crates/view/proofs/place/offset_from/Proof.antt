@@ -10,11 +10,11 @@ returns : tie.Need-returns
 unfolding offsetFrom
 returns c = search choices
 
-sub-least : tie.Need-sub-least
-sub-least c = search needs
+sub-min : tie.Need-sub-min
+sub-min c = search needs
 
-least-requires : tie.Need-least-requires
-least-requires c κs = search needs
+min-requires : tie.Need-min-requires
+min-requires c κs = search needs
 
 add-result : tie.Need-add-result
 add-result c = search needs
@@ -24,4 +24,4 @@ unfolding offsetFrom
 returns-2 c = search (choices, clamped)
 
 pub offset-from-spec : {M : Type 1} → statement M
-offset-from-spec = tie.close (tie.spec returns sub-least least-requires add-result returns-2)
+offset-from-spec = tie.close (tie.spec returns sub-min min-requires add-result returns-2)

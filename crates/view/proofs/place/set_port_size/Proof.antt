@@ -19,17 +19,17 @@ in-offset-range-requires-3 c κs = search needs
 in-offset-range-requires-4 : tie.Need-in-offset-range-requires-4
 in-offset-range-requires-4 c κs = search needs
 
-nearest-requires : tie.Need-nearest-requires
-nearest-requires c κs = search offsets
+nearest-inside-requires : tie.Need-nearest-inside-requires
+nearest-inside-requires c κs = search offsets
 
-nearest-requires-2 : tie.Need-nearest-requires-2
-nearest-requires-2 c κs = search offsets
+nearest-inside-requires-2 : tie.Need-nearest-inside-requires-2
+nearest-inside-requires-2 c κs = search offsets
 
-nearest-requires-3 : tie.Need-nearest-requires-3
-nearest-requires-3 c κs = search offsets
+nearest-inside-requires-3 : tie.Need-nearest-inside-requires-3
+nearest-inside-requires-3 c κs = search offsets
 
-nearest-requires-4 : tie.Need-nearest-requires-4
-nearest-requires-4 c κs = search offsets
+nearest-inside-requires-4 : tie.Need-nearest-inside-requires-4
+nearest-inside-requires-4 c κs = search offsets
 
 resize-requires : tie.Need-resize-requires
 resize-requires c κs = search needs
@@ -50,10 +50,10 @@ set-port-size-spec =
     in-offset-range-requires-2
     in-offset-range-requires-3
     in-offset-range-requires-4
-    nearest-requires
-    nearest-requires-2
-    nearest-requires-3
-    nearest-requires-4
+    nearest-inside-requires
+    nearest-inside-requires-2
+    nearest-inside-requires-3
+    nearest-inside-requires-4
     resize-requires
     returns
     returns-2)

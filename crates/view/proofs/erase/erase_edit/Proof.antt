@@ -1,0 +1,13 @@
+-- `view::erase::erased` meets its contract: the fill is what `fill_byte` promises. Assumes nothing.
+use borrow.Author.Needs.{needs}
+use Rattle.view.proofs.erase.erase_edit.Statement.{statement}
+use Rattle.view.proofs.erase.erase_edit.Tie as tie
+
+fill-byte-requires : tie.Need-fill-byte-requires
+fill-byte-requires c κs = search needs
+
+returns : tie.Need-returns
+returns c = cc
+
+pub erase-edit-spec : {M : Type 1} → statement M
+erase-edit-spec = tie.close (tie.spec fill-byte-requires returns)

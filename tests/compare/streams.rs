@@ -1,5 +1,6 @@
-//! The stored streams. Each folder holds an `input` and the `output`
-//! that it must give; to add a case, add a folder.
+//! The stored streams. Each folder holds an `input`, the `output` that it
+//! must give, and `about`: one line of words that says what the stream
+//! shows and which rule it is about. To add a case, add a folder.
 
 use crate::difference::first_difference;
 use crate::edges;
@@ -63,8 +64,37 @@ fn case_folders(folder: &Path) -> io::Result<Vec<PathBuf>> {
     Ok(cases)
 }
 
-/// What is wrong with one stored case.
+/// What is wrong with one stored case, and then what it is about: a
+/// reader sees which rule is broken.
 fn stored_case(case: &Path, subjects: &[Subject]) -> Vec<String> {
+    let mut faults = Vec::new();
+    let about = read_about(case, &mut faults);
+    faults.extend(stream_faults(case, subjects));
+    match about {
+        Some(about) if !faults.is_empty() => faults.push(format!("about: {}", about)),
+        _ => {}
+    }
+    faults
+}
+
+/// The words of a case. None is a fault: bytes do not explain themselves.
+fn read_about(case: &Path, faults: &mut Vec<String>) -> Option<String> {
+    let bytes = read(case, "about", faults)?;
+    let text = String::from_utf8_lossy(&bytes);
+    let lines = text.lines().count();
+    if text.trim().is_empty() {
+        faults.push("its about is empty".to_string());
+        None
+    } else if lines != 1 {
+        faults.push(format!("its about has {} lines and not one", lines));
+        None
+    } else {
+        Some(text.trim().to_string())
+    }
+}
+
+/// What is wrong with what the reference and each subject give.
+fn stream_faults(case: &Path, subjects: &[Subject]) -> Vec<String> {
     let mut faults = Vec::new();
     let input = read(case, "input", &mut faults);
     let output = read(case, "output", &mut faults);

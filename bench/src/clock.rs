@@ -9,7 +9,7 @@ struct Time {
     nanoseconds: c_long,
 }
 
-const PROCESSOR_TIME_OF_PROCESS: c_int = 2;
+const CLOCK_PROCESS_CPUTIME_ID: c_int = 2;
 
 extern "C" {
     fn clock_gettime(clock: c_int, time: *mut Time) -> c_int;
@@ -17,7 +17,7 @@ extern "C" {
 
 pub fn nanoseconds() -> u64 {
     let mut time = Time { seconds: 0, nanoseconds: 0 };
-    let failed = unsafe { clock_gettime(PROCESSOR_TIME_OF_PROCESS, &mut time) };
+    let failed = unsafe { clock_gettime(CLOCK_PROCESS_CPUTIME_ID, &mut time) };
     assert_eq!(failed, 0, "the processor time cannot be read");
     time.seconds as u64 * 1_000_000_000 + time.nanoseconds as u64
 }

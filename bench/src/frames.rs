@@ -3,13 +3,13 @@
 
 use std::collections::HashMap;
 
-/// A call puts the place to return to on the stack.
-const RETURN_PLACE: usize = 8;
+/// A call puts the return address on the stack.
+const RETURN_ADDRESS: usize = 8;
 
 #[derive(Default)]
 pub struct Function {
-    /// The most bytes that it has on the stack, the place to return to
-    /// among them.
+    /// The most bytes that it has on the stack, the return address among
+    /// them.
     frame: usize,
     calls: Vec<String>,
     /// The lengths of its block copies, where they are constant.
@@ -47,11 +47,11 @@ impl Object {
     }
 
     /// The stack of a function and all it calls, and the deepest chain of
-    /// calls. Functions from outside count with the place to return to.
+    /// calls. Functions from outside count with the return address.
     pub fn deepest(&self, name: &str) -> (usize, Vec<String>) {
         let function = match self.functions.get(name) {
             Some(function) => function,
-            None => return (RETURN_PLACE, vec![name.to_string()]),
+            None => return (RETURN_ADDRESS, vec![name.to_string()]),
         };
         let below = function.calls.iter().filter(|call| *call != name);
         let (depth, mut chain) = below
@@ -78,8 +78,8 @@ impl Object {
 
 impl Reader {
     fn new() -> Reader {
-        let function = Function { frame: RETURN_PLACE, ..Function::default() };
-        Reader { function, depth: RETURN_PLACE, length: None }
+        let function = Function { frame: RETURN_ADDRESS, ..Function::default() };
+        Reader { function, depth: RETURN_ADDRESS, length: None }
     }
 
     fn read(&mut self, line: &str) {

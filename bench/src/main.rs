@@ -19,11 +19,11 @@ mod cursor;
 #[allow(dead_code)]
 #[path = "../../tests/compare/expected.rs"]
 mod expected;
-#[allow(dead_code)]
-#[path = "../../tests/compare/numbers.rs"]
-mod numbers;
 #[path = "../../reference/src/port.rs"]
 mod port;
+#[allow(dead_code)]
+#[path = "../../tests/compare/rng.rs"]
+mod rng;
 #[path = "../../reference/src/stored.rs"]
 mod stored;
 

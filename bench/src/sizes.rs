@@ -4,8 +4,8 @@ use crate::feed::Feed;
 use crate::frames::Object;
 use crate::layout::Types;
 use crate::library::{Calls, LIBRARY};
-use crate::numbers::Numbers;
 use crate::port::{BLANK, SCREEN_SIZE};
+use crate::rng::Rng;
 use crate::stack::used;
 use crate::table::{texts, with_commas, Table};
 use crate::workloads::{all, PAGE};
@@ -13,8 +13,8 @@ use crate::workloads::{all, PAGE};
 /// Calls that do nothing, to see what the stack holds without the library.
 const NOTHING: Calls = Calls { run_stream: no_stream, put_bytes: no_bytes };
 
-/// The place to return to, which a call that does nothing has as well.
-const RETURN_PLACE: usize = 8;
+/// The return address, which a call that does nothing has as well.
+const RETURN_ADDRESS: usize = 8;
 
 pub fn run(notes: &str, disassembly: &str) -> Result<(), String> {
     let types = Types::new(&read(notes)?)?;
@@ -77,7 +77,7 @@ fn print_stack(object: &Object) {
 fn deepest(feeds: &[Feed]) -> usize {
     let mut streams: Vec<Vec<u8>> =
         all(1 << 14, 1000).into_iter().map(|each| each.stream).collect();
-    streams.push(Numbers::new(1, 0).bytes(1 << 20));
+    streams.push(Rng::new(1, 0).bytes(1 << 20));
     let depths =
         streams.iter().flat_map(|stream| feeds.iter().map(move |&feed| touched(stream, feed)));
     depths.max().unwrap_or(0)
@@ -90,7 +90,7 @@ fn touched(stream: &[u8], feed: Feed) -> usize {
             calls.run(stream, feed, &mut screen);
         })
     };
-    depth(LIBRARY) - depth(NOTHING) + RETURN_PLACE
+    depth(LIBRARY) - depth(NOTHING) + RETURN_ADDRESS
 }
 
 unsafe extern "C" fn no_stream(

@@ -1,7 +1,7 @@
 //! The workloads as streams, made from a seed: the same on each machine.
 
 use crate::feed::Feed;
-use crate::numbers::Numbers;
+use crate::rng::Rng;
 
 pub struct Workload {
     pub name: String,
@@ -53,8 +53,8 @@ pub fn by_client(bytes: usize) -> Workload {
     text("one byte a call, by client", lines(bytes / 4), Feed::Writes(1))
 }
 
-fn numbers(workload: u64) -> Numbers {
-    Numbers::new(SEED, workload)
+fn rng(workload: u64) -> Rng {
+    Rng::new(SEED, workload)
 }
 
 fn workload(name: &str, unit: &str, count: usize, mut stream: Vec<u8>) -> Workload {
@@ -67,17 +67,17 @@ fn text(name: &str, stream: Vec<u8>, feed: Feed) -> Workload {
     Workload { feed, ..workload(name, "byte", count, stream) }
 }
 
-fn letters(numbers: &mut Numbers, count: u64) -> Vec<u8> {
-    (0..count).map(|_| numbers.between(0x20, 0x7E)).collect()
+fn letters(rng: &mut Rng, count: u64) -> Vec<u8> {
+    (0..count).map(|_| rng.between(0x20, 0x7E)).collect()
 }
 
 /// Lines of 41 to 79 letters, each with a line end.
 fn lines(bytes: usize) -> Vec<u8> {
-    let mut numbers = numbers(1);
+    let mut rng = rng(1);
     let mut stream = Vec::new();
     while stream.len() < bytes {
-        let count = 41 + numbers.below(39);
-        stream.extend(letters(&mut numbers, count));
+        let count = 41 + rng.below(39);
+        stream.extend(letters(&mut rng, count));
         stream.push(0x0D);
     }
     stream
@@ -86,16 +86,16 @@ fn lines(bytes: usize) -> Vec<u8> {
 /// Letters without a line end; the last line is half full.
 fn run(bytes: usize) -> Vec<u8> {
     let columns = COLUMNS as usize;
-    letters(&mut numbers(2), (bytes / columns * columns + columns / 2) as u64)
+    letters(&mut rng(2), (bytes / columns * columns + columns / 2) as u64)
 }
 
 /// A full screen, a viewport, and line feeds on its last line.
 fn scrolls(name: &str, viewport: &[u8], height: u8, line_feeds: usize) -> Workload {
-    let mut numbers = numbers(3);
+    let mut rng = rng(3);
     let mut stream = Vec::new();
     for line in 0..LINES {
         stream.extend_from_slice(&[0x1E, 32, line + 32]);
-        stream.extend(letters(&mut numbers, COLUMNS - 1));
+        stream.extend(letters(&mut rng, COLUMNS - 1));
     }
     if !viewport.is_empty() {
         stream.push(0x02);
@@ -108,11 +108,11 @@ fn scrolls(name: &str, viewport: &[u8], height: u8, line_feeds: usize) -> Worklo
 
 /// The cursor set anywhere, and ten letters.
 fn addressed(bytes: usize) -> Workload {
-    let mut numbers = numbers(4);
+    let mut rng = rng(4);
     let mut stream = Vec::new();
     let mut count = 0;
     while stream.len() < bytes {
-        place_and_print(&mut numbers, &mut stream, 10);
+        place_and_print(&mut rng, &mut stream, 10);
         count += 1;
     }
     workload("addressed updates", "update", count, stream)
@@ -120,20 +120,20 @@ fn addressed(bytes: usize) -> Workload {
 
 /// The cursor set anywhere, four letters and one of the erases.
 fn erases(bytes: usize) -> Workload {
-    let mut numbers = numbers(5);
+    let mut rng = rng(5);
     let mut stream = Vec::new();
     let mut count = 0;
     while stream.len() < bytes {
-        place_and_print(&mut numbers, &mut stream, 4);
-        stream.push(numbers.pick(&ERASES));
+        place_and_print(&mut rng, &mut stream, 4);
+        stream.push(rng.pick(&ERASES));
         count += 1;
     }
     workload("erases", "erase", count, stream)
 }
 
-fn place_and_print(numbers: &mut Numbers, stream: &mut Vec<u8>, count: u64) {
-    let column = numbers.below(COLUMNS - count) as u8;
-    let line = numbers.below(LINES as u64) as u8;
+fn place_and_print(rng: &mut Rng, stream: &mut Vec<u8>, count: u64) {
+    let column = rng.below(COLUMNS - count) as u8;
+    let line = rng.below(LINES as u64) as u8;
     stream.extend_from_slice(&[0x1E, 32 + column, 32 + line]);
-    stream.extend(letters(numbers, count));
+    stream.extend(letters(rng, count));
 }

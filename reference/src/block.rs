@@ -23,7 +23,7 @@ pub fn block_return(port: Port, screen: &[u8], block: &mut [u8]) -> (u8, Port, u
     if screen.len() != SCREEN_SIZE {
         return (1, port, 0);
     }
-    if !port.sound() {
+    if !port.valid() {
         return (2, port, 0);
     }
     if block.len() < block_size(&port) {
@@ -48,7 +48,7 @@ pub fn block_restore(port: Port, screen: &mut [u8], block: &[u8]) -> (u8, Port, 
     if screen.len() != SCREEN_SIZE {
         return (1, port, 0);
     }
-    if !port.sound() {
+    if !port.valid() {
         return (2, port, 0);
     }
     if block.len() != block_size(&port) || block[0] != width(&port) || block[1] != height(&port) {
@@ -68,7 +68,7 @@ pub fn block_restore(port: Port, screen: &mut [u8], block: &[u8]) -> (u8, Port, 
 /// One row of the viewport, counted from 0 at the top, as a part of the
 /// lent screen; an empty part where there is no such row to give.
 pub fn row_view<'a>(port: &Port, screen: &'a [u8], row: usize) -> &'a [u8] {
-    if screen.len() != SCREEN_SIZE || !port.sound() || row >= height(port) as usize {
+    if screen.len() != SCREEN_SIZE || !port.valid() || row >= height(port) as usize {
         return &screen[0..0];
     }
     let start = cell(port.state.viewport.left, port.state.viewport.top + row as u8);

@@ -12,7 +12,7 @@ pub fn write(port: Port, screen: &mut [u8], bytes: &[u8]) -> (u8, Port, usize) {
     if screen.len() != SCREEN_SIZE {
         return (1, port, 0);
     }
-    if !port.sound() {
+    if !port.valid() {
         return (2, port, 0);
     }
     let mut port = port;
@@ -43,17 +43,17 @@ fn take_byte(port: &mut Port, screen: &mut [u8], bells: &mut usize, byte: u8) {
             port.waiting = 0;
             port.gathered = 0;
             port.parameters = [0, 0, 0, 0];
-            obey(port, screen, bells, code, parameters);
+            execute(port, screen, bells, code, parameters);
         }
     } else if parameters_needed(byte) > 0 {
         port.waiting = byte;
     } else {
-        obey(port, screen, bells, byte, [0, 0, 0, 0]);
+        execute(port, screen, bells, byte, [0, 0, 0, 0]);
     }
 }
 
 /// Does what one code says, its parameters being complete.
-fn obey(port: &mut Port, screen: &mut [u8], bells: &mut usize, code: u8, parameters: [u8; 4]) {
+fn execute(port: &mut Port, screen: &mut [u8], bells: &mut usize, code: u8, parameters: [u8; 4]) {
     let viewport = port.state.viewport;
     let at = port.state.cursor;
     match code {

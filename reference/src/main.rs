@@ -5,19 +5,19 @@
 //!
 //! The program hands standard input to a fresh console in one write, or
 //! with --cut one byte a write, and shows the screen, cursor and bells.
-//! With --script standard input is a script of calls on a fresh wall with
-//! a blank screen, and the program gives their answers as bytes.
+//! With --script standard input is a script of calls on a fresh multiplexer
+//! with a blank screen, and the program gives their answers as bytes.
 
 mod block;
 mod cells;
 mod console;
 mod cursor;
+mod multiplexer;
 mod port;
 mod script;
 mod stored;
 #[cfg(test)]
 mod tests;
-mod wall;
 
 use console::write;
 use port::{cell, Port, BLANK, SCREEN_SIZE};

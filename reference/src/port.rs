@@ -1,7 +1,8 @@
-//! The screen's measures, the port, and which ports are sound.
+//! The screen's dimensions, the port, and which ports are valid (paper
+//! 01's 'sound').
 //!
 //! Every field is a plain number or truth value, so a host can hand in
-//! an unsound port as well; `Port::sound` tells the two apart.
+//! an invalid port as well; `Port::valid` tells the two apart.
 
 /// 80 columns by 24 lines, one byte a cell.
 pub const SCREEN_SIZE: usize = 1920;
@@ -88,7 +89,7 @@ impl Rectangle {
             && self.bottom <= outer.bottom
     }
 
-    pub fn holds(self, cursor: Cursor) -> bool {
+    pub fn contains(self, cursor: Cursor) -> bool {
         self.left <= cursor.column
             && cursor.column <= self.right
             && self.top <= cursor.line
@@ -109,8 +110,8 @@ impl State {
     }
 
     /// The rules for a port's viewport and cursor, saved or in use.
-    fn sound(self, home: Rectangle) -> bool {
-        self.viewport.legal() && self.viewport.inside(home) && self.viewport.holds(self.cursor)
+    fn valid(self, home: Rectangle) -> bool {
+        self.viewport.legal() && self.viewport.inside(home) && self.viewport.contains(self.cursor)
     }
 }
 
@@ -133,17 +134,17 @@ impl Port {
         }
     }
 
-    pub fn sound(&self) -> bool {
+    pub fn valid(&self) -> bool {
         self.home.legal()
-            && self.state.sound(self.home)
-            && self.saved_sound()
-            && self.waiting_sound()
+            && self.state.valid(self.home)
+            && self.saved_valid()
+            && self.waiting_valid()
     }
 
     /// A saved port obeys the same rules; with none, its fields hold 0.
-    fn saved_sound(&self) -> bool {
+    fn saved_valid(&self) -> bool {
         if self.has_saved {
-            self.saved.sound(self.home)
+            self.saved.valid(self.home)
         } else {
             self.saved == NOTHING_SAVED
         }
@@ -151,7 +152,7 @@ impl Port {
 
     /// Either nothing waits and nothing is gathered, or a code that takes
     /// parameters waits and lacks at least one. Unused places hold 0.
-    fn waiting_sound(&self) -> bool {
+    fn waiting_valid(&self) -> bool {
         if self.waiting == 0 {
             if self.gathered != 0 {
                 return false;

@@ -1,15 +1,15 @@
-//! A script of calls on a fresh wall, and the answers, both as bytes.
+//! A script of calls on a fresh multiplexer, and the answers, both as bytes.
 //!
-//! A call is its kind, a client number, and then for an open (0) the
-//! pane's left, top, right and bottom, for a close (1) nothing, and for a
-//! write (2), block return (3) or block restore (4) a length of two
-//! bytes, low byte first, and that many bytes.
+//! A call is its kind, a client, and then for an open (0) the pane's left,
+//! top, right and bottom, for a close (1) nothing, and for a write (2),
+//! block return (3) or block restore (4) a length of two bytes, low byte
+//! first, and that many bytes.
 //!
 //! An answer is the status, a count of four bytes, low byte first, for a
 //! block return the lent block afterwards, then every cell of the screen.
 
+use crate::multiplexer::{self, Multiplexer};
 use crate::port::Rectangle;
-use crate::wall::{self, Wall};
 
 enum Call<'a> {
     Open(Rectangle),
@@ -19,25 +19,27 @@ enum Call<'a> {
     BlockRestore(&'a [u8]),
 }
 
-/// Runs the calls in order, each on the wall and screen that the one
-/// before left. A call that is cut off or unknown ends the run.
+/// Runs the calls in order, each on the multiplexer and screen that the
+/// one before left. A call that is cut off or unknown ends the run.
 pub fn run_script(script: &[u8], screen: &mut [u8]) -> Vec<u8> {
-    let mut wall = Wall::fresh();
+    let mut multiplexer = Multiplexer::fresh();
     let mut answers = Vec::new();
     let mut rest = script;
-    while let Some((number, call)) = take_call(&mut rest) {
+    while let Some((client, call)) = take_call(&mut rest) {
         let mut lent = Vec::new();
         let (status, after, count) = match call {
-            Call::Open(pane) => wall::open(wall, screen, number, pane),
-            Call::Close => wall::close(wall, number),
-            Call::Write(bytes) => wall::write(wall, screen, number, bytes),
+            Call::Open(pane) => multiplexer::open(multiplexer, screen, client, pane),
+            Call::Close => multiplexer::close(multiplexer, client),
+            Call::Write(bytes) => multiplexer::write(multiplexer, screen, client, bytes),
             Call::BlockReturn(block) => {
                 lent = block.to_vec();
-                wall::block_return(wall, screen, number, &mut lent)
+                multiplexer::block_return(multiplexer, screen, client, &mut lent)
             }
-            Call::BlockRestore(block) => wall::block_restore(wall, screen, number, block),
+            Call::BlockRestore(block) => {
+                multiplexer::block_restore(multiplexer, screen, client, block)
+            }
         };
-        wall = after;
+        multiplexer = after;
         answers.push(status);
         answers.extend_from_slice(&(count as u32).to_le_bytes());
         answers.extend_from_slice(&lent);
@@ -46,11 +48,11 @@ pub fn run_script(script: &[u8], screen: &mut [u8]) -> Vec<u8> {
     answers
 }
 
-/// The next call and its client number; none at the end of the script,
-/// in a call that is cut off, or at an unknown kind.
+/// The next call and its client; none at the end of the script, in a call
+/// that is cut off, or at an unknown kind.
 fn take_call<'a>(rest: &mut &'a [u8]) -> Option<(u8, Call<'a>)> {
     let kind = take_byte(rest)?;
-    let number = take_byte(rest)?;
+    let client = take_byte(rest)?;
     let call = match kind {
         0 => {
             let left = take_byte(rest)?;
@@ -65,7 +67,7 @@ fn take_call<'a>(rest: &mut &'a [u8]) -> Option<(u8, Call<'a>)> {
         4 => Call::BlockRestore(take_bytes(rest)?),
         5..=255 => return None,
     };
-    Some((number, call))
+    Some((client, call))
 }
 
 fn take_byte(rest: &mut &[u8]) -> Option<u8> {

@@ -1,8 +1,8 @@
 //! Random streams of all kinds, each from a seed and its number.
 
-use crate::numbers::Numbers;
 use crate::pairs::ALL_PAIRS;
-use crate::pieces::{Maker, SHOW};
+use crate::pieces::{Builder, SHOW};
+use crate::rng::Rng;
 
 /// The stream with this number; the same seed gives the same one. It may
 /// end in a command cut off, or show what the port hides or has saved.
@@ -11,85 +11,85 @@ use crate::pieces::{Maker, SHOW};
 /// 1024. Of the numbers n and n + 1024 at least one is made in pieces, so
 /// 2048 streams reach every pair.
 pub fn stream(seed: u64, number: u64) -> Vec<u8> {
-    let mut maker = Maker::new(Numbers::new(seed, number));
+    let mut builder = Builder::new(Rng::new(seed, number));
     match number % 11 {
-        0 => plain_bytes(&mut maker),
-        5 => mostly_codes(&mut maker),
-        _ => in_pieces(&mut maker, number % ALL_PAIRS as u64),
+        0 => plain_bytes(&mut builder),
+        5 => mostly_codes(&mut builder),
+        _ => in_pieces(&mut builder, number % ALL_PAIRS as u64),
     }
-    match maker.numbers.below(4) {
-        0 => maker.command_cut_off(),
-        1 => maker.stream.extend_from_slice(&SHOW),
-        2 => maker.stream.extend([0x04].iter().chain(&SHOW)),
+    match builder.rng.below(4) {
+        0 => builder.command_cut_off(),
+        1 => builder.stream.extend_from_slice(&SHOW),
+        2 => builder.stream.extend([0x04].iter().chain(&SHOW)),
         _ => {}
     }
-    maker.stream
+    builder.stream
 }
 
-fn plain_bytes(maker: &mut Maker) {
-    for _ in 0..maker.numbers.below(500) {
-        let byte = maker.numbers.byte();
-        maker.stream.push(byte);
+fn plain_bytes(builder: &mut Builder) {
+    for _ in 0..builder.rng.below(500) {
+        let byte = builder.rng.byte();
+        builder.stream.push(byte);
     }
 }
 
-pub fn mostly_codes(maker: &mut Maker) {
-    for _ in 0..maker.numbers.below(120) {
-        let byte = if maker.numbers.once_in(3) {
-            maker.numbers.byte()
+pub fn mostly_codes(builder: &mut Builder) {
+    for _ in 0..builder.rng.below(120) {
+        let byte = if builder.rng.once_in(3) {
+            builder.rng.byte()
         } else {
-            maker.numbers.between(0x00, 0x1F)
+            builder.rng.between(0x00, 0x1F)
         };
-        maker.stream.push(byte);
+        builder.stream.push(byte);
     }
 }
 
 /// Text to see changes by, often a viewport and flags, then some pieces
 /// with the pair among them. No command waits between two pieces. Few
 /// pieces are more frequent than many, as a later may hide an earlier.
-fn in_pieces(maker: &mut Maker, pair: u64) {
-    match maker.numbers.below(5) {
+fn in_pieces(builder: &mut Builder, pair: u64) {
+    match builder.rng.below(5) {
         0 => {}
-        1 => maker.text(90),
-        2 => maker.text(700),
-        _ => maker.text_everywhere(),
+        1 => builder.text(90),
+        2 => builder.text(700),
+        _ => builder.text_everywhere(),
     }
-    if !maker.numbers.once_in(4) {
-        maker.viewport();
-        if maker.numbers.once_in(2) {
-            maker.text(60);
+    if !builder.rng.once_in(4) {
+        builder.viewport();
+        if builder.rng.once_in(2) {
+            builder.text(60);
         }
     }
-    if !maker.numbers.once_in(4) {
-        maker.flags();
+    if !builder.rng.once_in(4) {
+        builder.flags();
     }
-    let most = 1 + maker.numbers.below(40);
-    let pieces = 1 + maker.numbers.below(most);
-    let pair_at = maker.numbers.below(pieces);
+    let most = 1 + builder.rng.below(40);
+    let pieces = 1 + builder.rng.below(most);
+    let pair_at = builder.rng.below(pieces);
     for place in 0..pieces {
         if place == pair_at {
-            maker.pair(pair);
+            builder.pair(pair);
         } else {
-            piece(maker);
+            piece(builder);
         }
     }
 }
 
 /// One piece after which no command waits, if none waited before.
-pub fn piece(maker: &mut Maker) {
-    match maker.numbers.below(20) {
-        0 | 1 => maker.text(30),
-        2 => maker.flags(),
-        3 => maker.viewport(),
-        4 => maker.dle_flood(),
-        5 | 6 => maker.shift(),
-        7..=9 => maker.moves_at_an_edge(),
-        10 => maker.saves_and_restores(),
-        11 => maker.mode_and_text(),
-        12 => maker.place_cursor(),
-        13 | 14 => maker.erase_or_scroll(),
-        15 => maker.bad_command(),
-        16 => maker.bad_viewport(),
-        _ => maker.any_command(),
+pub fn piece(builder: &mut Builder) {
+    match builder.rng.below(20) {
+        0 | 1 => builder.text(30),
+        2 => builder.flags(),
+        3 => builder.viewport(),
+        4 => builder.dle_flood(),
+        5 | 6 => builder.shift(),
+        7..=9 => builder.moves_at_an_edge(),
+        10 => builder.saves_and_restores(),
+        11 => builder.mode_and_text(),
+        12 => builder.place_cursor(),
+        13 | 14 => builder.erase_or_scroll(),
+        15 => builder.bad_command(),
+        16 => builder.bad_viewport(),
+        _ => builder.any_command(),
     }
 }

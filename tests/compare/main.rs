@@ -20,15 +20,14 @@ mod cells;
 mod console;
 #[path = "../../reference/src/cursor.rs"]
 mod cursor;
+#[path = "../../reference/src/multiplexer.rs"]
+mod multiplexer;
 #[path = "../../reference/src/port.rs"]
 mod port;
 #[path = "../../reference/src/script.rs"]
 mod script;
 #[path = "../../reference/src/stored.rs"]
 mod stored;
-// The multiplexer, by the papers' word for it.
-#[path = "../../reference/src/wall.rs"]
-mod wall;
 
 mod commands;
 mod difference;
@@ -37,13 +36,13 @@ mod expected;
 mod generator;
 mod library;
 mod limits;
-mod numbers;
 mod pairs;
 mod pieces;
 mod program;
 mod random;
+mod rng;
 mod scripts;
-mod shorten;
+mod shrink;
 mod streams;
 mod subjects;
 

@@ -15,7 +15,7 @@ impl Pairs {
     }
 
     /// Notes the command, if any, that this byte completes, with the flags
-    /// in force before the command is obeyed.
+    /// in force before the command is executed.
     pub fn note(&mut self, port: &Port, byte: u8) {
         if let Some(code) = command_completed(port, byte) {
             self.reached[code as usize][setting(port.state.flags)] = true;
@@ -40,7 +40,7 @@ impl Pairs {
     }
 }
 
-/// The control code that is obeyed once the port has taken this byte.
+/// The control code that is executed once the port has taken this byte.
 fn command_completed(port: &Port, byte: u8) -> Option<u8> {
     if port.waiting != 0 {
         if port.gathered + 1 == parameters_needed(port.waiting) {

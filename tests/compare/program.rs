@@ -41,8 +41,8 @@ pub fn run(program: &OsStr, input: &[u8]) -> Result<Vec<u8>, Fault> {
         .stderr(Stdio::null())
         .spawn()
         .map_err(|error| Fault::NotStarted(error.to_string()))?;
-    let told = feed_and_read(&mut child, input.to_vec());
-    let read = told.recv_timeout(TIME_LIMIT);
+    let receiver = feed_and_read(&mut child, input.to_vec());
+    let read = receiver.recv_timeout(TIME_LIMIT);
     let status = match (&read, wait_until(&mut child, deadline)) {
         (Ok(_), Some(status)) => status,
         _ => {
@@ -70,7 +70,7 @@ fn feed_and_read(child: &mut Child, input: Vec<u8>) -> mpsc::Receiver<Result<Vec
         Err(error) if error.kind() != ErrorKind::BrokenPipe => Err(error.to_string()),
         Err(_) | Ok(()) => Ok(()),
     });
-    let (tell, told) = mpsc::channel();
+    let (sender, receiver) = mpsc::channel();
     thread::spawn(move || {
         let mut output = Vec::new();
         let read = source.take(OUTPUT_LIMIT).read_to_end(&mut output);
@@ -81,9 +81,9 @@ fn feed_and_read(child: &mut Child, input: Vec<u8>) -> mpsc::Receiver<Result<Vec
             (Ok(()), Ok(_)) => Ok(output),
         };
         // No one listens any more if the time is over.
-        let _ = tell.send(outcome);
+        let _ = sender.send(outcome);
     });
-    told
+    receiver
 }
 
 fn wait_until(child: &mut Child, deadline: Instant) -> Option<ExitStatus> {

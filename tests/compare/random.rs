@@ -6,7 +6,7 @@ use crate::expected;
 use crate::generator::stream;
 use crate::pairs::{Pairs, ALL_PAIRS};
 use crate::program::Fault;
-use crate::shorten::shorten;
+use crate::shrink::shrink;
 use crate::subjects::{subjects, Subject};
 use std::ffi::OsStr;
 
@@ -89,7 +89,7 @@ fn differs(output: &str, printed: &Result<Vec<u8>, Fault>) -> bool {
 /// Prints the shortest stream that shows a difference, and where.
 fn report(seed: u64, number: u64, input: &[u8], subject: &Subject) {
     let shortest =
-        shorten(input, |shorter| differs(&expected::whole(shorter), &subject.output(shorter)));
+        shrink(input, |shorter| differs(&expected::whole(shorter), &subject.output(shorter)));
     println!("seed {} stream {}: {} differs", seed, number, subject);
     println!("shortest stream: {}", hex(&shortest));
     match subject.output(&shortest) {

@@ -1,35 +1,35 @@
 //! The comparison of the library with the reference on random scripts of
 //! calls by client, answer by answer.
 
-mod author;
 mod blocks;
 mod call;
+mod coverage;
+mod generator;
+mod model;
 mod outcomes;
 mod panes;
-mod reached;
 mod refusals;
 mod run;
-mod shortest;
+mod shrink_run;
 mod situations;
-mod stage;
 mod surroundings;
 mod writes;
 
 use crate::difference::{brief_hex, hex};
 use crate::port::BLANK;
+use coverage::Coverage;
 use outcomes::difference;
-use reached::Reached;
 use run::Run;
-use shortest::shortest;
+use shrink_run::shrink_run;
 
 /// Compares on `count` scripts, prints what differs, what was reached and
 /// a line at the end, and tells whether all is well.
 pub fn scripts(seed: u64, count: u64) -> bool {
-    let mut reached = Reached::default();
+    let mut coverage = Coverage::default();
     let mut differing: u64 = 0;
     for number in 0..count {
-        let run = author::run(seed, number);
-        if let Err(fault) = reached.follow(&run) {
+        let run = generator::run(seed, number);
+        if let Err(fault) = coverage.follow(&run) {
             println!("seed {} script {}: the reference gives {}", seed, number, fault);
             println!("scripts: stopped after {} of {} scripts, seed {}", number, count, seed);
             return false;
@@ -41,8 +41,8 @@ pub fn scripts(seed: u64, count: u64) -> bool {
             }
         }
     }
-    reached.print();
-    let missing = reached.missing();
+    coverage.print();
+    let missing = coverage.missing();
     for name in &missing {
         println!("not reached: {}", name);
     }
@@ -60,7 +60,7 @@ fn library_difference(run: &Run) -> Option<String> {
 
 /// Prints the shortest script found that shows a difference, and where.
 fn report(seed: u64, number: u64, run: &Run) {
-    let run = shortest(run, |shorter| library_difference(shorter).is_some());
+    let run = shrink_run(run, |shorter| library_difference(shorter).is_some());
     println!("seed {} script {}: the library differs", seed, number);
     let blank = run.screen.iter().all(|&cell| cell == BLANK);
     println!(

@@ -78,8 +78,8 @@ fn rows_that_are_not_there_are_empty() {
     for size in [0, 1919, 1921] {
         assert!(row_view(&console.port, &vec![0x41; size], 0).is_empty());
     }
-    let unsound = console.but(|c| {
+    let invalid = console.but(|c| {
         c.cursor(9, 6);
     });
-    assert!(row_view(&unsound.port, &unsound.screen, 0).is_empty());
+    assert!(row_view(&invalid.port, &invalid.screen, 0).is_empty());
 }

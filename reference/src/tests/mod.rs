@@ -5,16 +5,16 @@ mod codes;
 mod examples;
 mod modes;
 mod moves;
+mod multiplexer_panes;
+mod multiplexer_refusals;
+mod multiplexer_validity;
+mod multiplexers;
 mod program;
 mod refusals;
 mod scripts;
-mod soundness;
 mod stored;
+mod validity;
 mod viewports;
-mod wall_panes;
-mod wall_refusals;
-mod wall_soundness;
-mod walls;
 
 use crate::console::{write, write_byte};
 use crate::port::{cell, Cursor, Port, Rectangle, BLANK, SCREEN_SIZE};
@@ -108,7 +108,7 @@ fn check_pieces(start: &Console, pieces: &[&[u8]], end: &Console, bells: usize) 
     for piece in pieces {
         let (status, after, count) = write(port, &mut screen, piece);
         assert_eq!(status, 0, "status, pieces {:02X?}", pieces);
-        assert!(after.sound(), "soundness, pieces {:02X?}", pieces);
+        assert!(after.valid(), "validity, pieces {:02X?}", pieces);
         port = after;
         rung += count;
     }

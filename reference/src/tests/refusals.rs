@@ -6,7 +6,7 @@ use crate::console::{write, write_byte};
 use crate::port::Port;
 
 /// The small port with its cursor outside the viewport.
-fn unsound() -> Port {
+fn invalid() -> Port {
     let mut port = small().port;
     port.state.cursor.column = 13;
     port
@@ -55,8 +55,8 @@ fn fitting() -> Vec<u8> {
 fn screen_of_another_length_is_1() {
     for size in [0, 1, 1919, 1921, 3840] {
         let screen = vec![0x41; size];
-        // The port is sound, then not; 1 comes before 2.
-        for port in [small().port, unsound(), crossed()] {
+        // The port is valid, then not; 1 comes before 2.
+        for port in [small().port, invalid(), crossed()] {
             check_write(port, &screen, b"A\x07\x0C", 1);
             check_write(port, &screen, b"", 1);
             check_write_byte(port, &screen, 0x07, 1);
@@ -70,8 +70,8 @@ fn screen_of_another_length_is_1() {
 }
 
 #[test]
-fn unsound_port_is_2() {
-    for port in [unsound(), crossed()] {
+fn invalid_port_is_2() {
+    for port in [invalid(), crossed()] {
         check_write(port, &patterned(), b"A\x07\x0C", 2);
         check_write(port, &patterned(), b"", 2);
         check_write_byte(port, &patterned(), 0x07, 2);

@@ -1,7 +1,7 @@
 //! Scripts: the form of each call and answer, and where a run ends.
 
+use super::multiplexers::check_cells;
 use super::patterned;
-use super::walls::check_cells;
 use crate::script::run_script;
 
 /// An answer's bytes: status, four of the count, lent block, all cells.
@@ -33,7 +33,7 @@ fn check(script: &[u8], answers: &[Vec<u8>], end: &[u8]) {
 const NONE: [u8; 4] = [0, 0, 0, 0];
 const BLANKS: [u8; 4] = [0xA0, 0xA0, 0xA0, 0xA0];
 
-/// Number 7 in the bottom right corner.
+/// Client 7 in the bottom right corner.
 const OPEN: [u8; 6] = [0, 7, 78, 22, 79, 23];
 
 #[test]
@@ -99,7 +99,7 @@ fn block_return_call() {
     let script = [
         &OPEN[..],
         &[2, 7, 2, 0, 0x41, 0x42],
-        // Eight bytes lent, six, five, none; and for a number not open.
+        // Eight bytes lent, six, five, none; and for a client not open.
         &[3, 7, 8, 0, 21, 22, 23, 24, 25, 26, 27, 28],
         &[3, 7, 6, 0, 21, 22, 23, 24, 25, 26],
         &[3, 7, 5, 0, 21, 22, 23, 24, 25],
@@ -196,7 +196,7 @@ fn screen_of_another_length() {
         let script = [&OPEN[..], &[1, 7], &[2, 7, 1, 0, 0x07], &[3, 7, 1, 0, 9], &[4, 7, 0, 0]];
         let got = run_script(&script.concat(), &mut screen);
         assert_eq!(screen, vec![0x41; size]);
-        // A close is lent no screen, so it can only miss the number.
+        // A close is lent no screen, so it can only miss the client.
         let answers = [
             answer(1, NONE, &[], &screen),
             answer(8, NONE, &[], &screen),

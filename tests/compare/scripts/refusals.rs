@@ -4,10 +4,11 @@
 //! 2 is not among them: a run starts with a fresh multiplexer, and it is
 //! proved that every call leaves a valid one valid.
 
-use super::blocks::{length, measures};
+use super::blocks::{dimensions, length};
 use super::call::{Action, Call};
+use super::model::{clients, panes, port};
 use super::panes::share_a_cell;
-use super::stage::{clients, panes, port, Multiplexer};
+use crate::multiplexer::Multiplexer;
 use crate::port::{Port, SCREEN_SIZE};
 
 /// The statuses that a script can reach, by kind of call.
@@ -15,7 +16,7 @@ pub const REACHABLE: [&[u8]; 5] =
     [&[0, 1, 3, 4, 5, 6, 7], &[0, 8], &[0, 1, 8], &[0, 1, 8, 9], &[0, 1, 8, 10]];
 
 /// The refusals that a script can make apply at once, by kind of call.
-/// Number 0 is never open. On a screen that is refused nothing is open.
+/// Client 0 is never open. On a screen that is refused nothing is open.
 pub const TOGETHER: [&[(u8, u8)]; 5] = [
     &[(1, 3), (1, 4), (3, 4), (3, 6), (3, 7), (4, 5), (4, 6), (4, 7), (5, 6), (5, 7), (6, 7)],
     &[],
@@ -48,16 +49,16 @@ pub fn refusals(call: &Call, multiplexer: &Multiplexer, screen_length: usize) ->
 
 /// Too short for the viewport; without a port, for any viewport.
 fn too_short(block: &[u8], port: Option<&Port>) -> bool {
-    let least = port.map_or((2, 2), |port| measures(port.state.viewport));
+    let least = port.map_or((2, 2), |port| dimensions(port.state.viewport));
     block.len() < length(least)
 }
 
-/// Not of the viewport's measures; without a port, of none that there are.
+/// Not of the viewport's dimensions; without a port, of none that there are.
 fn unfit(block: &[u8], port: Option<&Port>) -> bool {
     if block.len() < length((2, 2)) {
         return true;
     }
     let given = (block[0], block[1]);
     block.len() != length(given)
-        || port.map_or(false, |port| given != measures(port.state.viewport))
+        || port.map_or(false, |port| given != dimensions(port.state.viewport))
 }

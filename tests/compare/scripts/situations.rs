@@ -1,8 +1,9 @@
 //! Situations that random runs must meet.
 
-use super::blocks::{length, measures};
+use super::blocks::{dimensions, length};
 use super::call::{Action, Call};
-use super::stage::{panes, port, Multiplexer};
+use super::model::{panes, port};
+use crate::multiplexer::Multiplexer;
 use crate::port::{Port, Rectangle, WHOLE_SCREEN};
 use std::collections::BTreeMap;
 
@@ -48,17 +49,17 @@ impl Situations {
         let port = port(&now.multiplexer, now.call.client);
         match (&now.call.action, port) {
             (Action::Open(pane), _) => {
-                self.note("open: number 0", zero);
+                self.note("open: client 0", zero);
                 self.see_open(now, *pane);
                 self.see_illegal(*pane);
             }
-            (Action::Close, _) => self.note("close: number 0", zero),
+            (Action::Close, _) => self.note("close: client 0", zero),
             (Action::Write(bytes), Some(port)) => self.see_write(now, port, bytes),
             (Action::Return(block), Some(port)) => self.see_return(port, block.len()),
             (Action::Restore(block), Some(port)) => self.see_restore(now, port, block),
-            (Action::Write(_), None) => self.note("write: number 0", zero),
-            (Action::Return(_), None) => self.note("return: number 0", zero),
-            (Action::Restore(_), None) => self.note("restore: number 0", zero),
+            (Action::Write(_), None) => self.note("write: client 0", zero),
+            (Action::Return(_), None) => self.note("return: client 0", zero),
+            (Action::Restore(_), None) => self.note("restore: client 0", zero),
         }
     }
 
@@ -67,7 +68,7 @@ impl Situations {
         let near = |test: fn(Rectangle, Rectangle) -> bool| open.iter().any(|&at| test(pane, at));
         let opened = now.status == 0;
         let closed = matches!(now.before, Some((Call { action: Action::Close, .. }, 0)));
-        self.note("open: 2 by 2", opened && measures(pane) == (2, 2));
+        self.note("open: 2 by 2", opened && dimensions(pane) == (2, 2));
         self.note("open: the whole screen", opened && pane == WHOLE_SCREEN);
         self.note("open: side by side", opened && near(beside));
         self.note("open: one above another", opened && near(above));
@@ -94,7 +95,7 @@ impl Situations {
     }
 
     fn see_return(&mut self, port: &Port, lent: usize) {
-        let right = length(measures(port.state.viewport));
+        let right = length(dimensions(port.state.viewport));
         self.note("return: empty block", lent == 0);
         self.note("return: one byte too few", lent + 1 == right);
         self.note("return: right length", lent == right);
@@ -103,7 +104,7 @@ impl Situations {
     }
 
     fn see_restore(&mut self, now: &Moment, port: &Port, block: &[u8]) {
-        let (width, height) = measures(port.state.viewport);
+        let (width, height) = dimensions(port.state.viewport);
         let right = length((width, height));
         self.note("restore: empty block", block.is_empty());
         self.note("restore: one byte too few", block.len() + 1 == right);

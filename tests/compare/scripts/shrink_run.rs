@@ -1,13 +1,13 @@
-//! Shortens a run while what it shows stays.
+//! Shrinks a run while what it shows stays.
 
 use super::call::Action;
 use super::run::Run;
 use crate::port::BLANK;
-use crate::shorten::shorten;
+use crate::shrink::shrink;
 
-/// Makes what surrounds the calls plain, then drops calls and shortens
+/// Makes what surrounds the calls plain, then drops calls and shrinks
 /// what they lend, as long as `shows` stays true.
-pub fn shortest(run: &Run, shows: impl Fn(&Run) -> bool) -> Run {
+pub fn shrink_run(run: &Run, shows: impl Fn(&Run) -> bool) -> Run {
     let mut run = run.clone();
     let plainer: [fn(&mut Run); 3] =
         [|run| run.screen.fill(BLANK), |run| run.ending.clear(), |run| run.spare = 0];
@@ -21,7 +21,7 @@ pub fn shortest(run: &Run, shows: impl Fn(&Run) -> bool) -> Run {
     loop {
         let length = run.script().len();
         let with = |calls: &[_]| Run { calls: calls.to_vec(), ..run.clone() };
-        run = with(&shorten(&run.calls, |calls| shows(&with(calls))));
+        run = with(&shrink(&run.calls, |calls| shows(&with(calls))));
         for place in 0..run.calls.len() {
             run = with_less_lent(&run, place, &shows);
         }
@@ -44,5 +44,5 @@ fn with_less_lent(run: &Run, place: usize, shows: &impl Fn(&Run) -> bool) -> Run
         shorter.calls[place].action = action(lent.to_vec());
         shorter
     };
-    with(&shorten(lent, |shorter| shows(&with(shorter))))
+    with(&shrink(lent, |shorter| shows(&with(shorter))))
 }

@@ -1,18 +1,18 @@
-//! A seeded generator of numbers (splitmix64).
+//! A seeded random number generator (splitmix64).
 
-pub struct Numbers {
+pub struct Rng {
     state: u64,
 }
 
 const STEP: u64 = 0x9E37_79B9_7F4A_7C15;
 
-impl Numbers {
+impl Rng {
     /// The numbers of one stream: its own for each seed and number.
-    pub fn new(seed: u64, stream: u64) -> Numbers {
-        let mut first = Numbers { state: seed };
+    pub fn new(seed: u64, stream: u64) -> Rng {
+        let mut first = Rng { state: seed };
         let start = first.next();
-        let mut second = Numbers { state: start ^ stream };
-        Numbers { state: second.next() }
+        let mut second = Rng { state: start ^ stream };
+        Rng { state: second.next() }
     }
 
     fn next(&mut self) -> u64 {
@@ -43,7 +43,7 @@ impl Numbers {
 
     /// A first and a last place from `start` to `end`, the last 1 to
     /// `most` places after the first; at either end now and then.
-    pub fn stretch(&mut self, start: u8, end: u8, most: u8) -> (u8, u8) {
+    pub fn interval(&mut self, start: u8, end: u8, most: u8) -> (u8, u8) {
         let distance = self.between(1, most.min(end - start));
         let first = match self.below(6) {
             0 => start,

@@ -1,8 +1,8 @@
-//! Shortens a list, such as a stream, while what it shows stays.
+//! Shrinks a list, such as a stream, while what it shows stays.
 
 /// Removes pieces, long ones first, as long as `shows` stays true, until
 /// no single item can be removed.
-pub fn shorten<T: Clone>(list: &[T], mut shows: impl FnMut(&[T]) -> bool) -> Vec<T> {
+pub fn shrink<T: Clone>(list: &[T], mut shows: impl FnMut(&[T]) -> bool) -> Vec<T> {
     let mut shortest = list.to_vec();
     let mut size = (shortest.len() + 1) / 2;
     while size > 0 {

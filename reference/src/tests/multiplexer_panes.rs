@@ -1,20 +1,20 @@
 //! Calls on one slot leave the other slots, and the cells of no pane or
 //! of another one, as they are.
 
-use super::walls::{blanked, check_cells, four, free, slot};
+use super::multiplexers::{blanked, check_cells, four, free, slot};
 use super::{patterned, rectangle, small};
+use crate::multiplexer::{block_restore, block_return, write, Multiplexer};
 use crate::port::{Cursor, State};
-use crate::wall::{block_restore, block_return, write, Wall};
 
-/// Number 7 has abc, def, ghi in its pane and the cursor on the e. The
+/// Client 7 has abc, def, ghi in its pane and the cursor on the e. The
 /// panes of 200 and 255 begin right behind its right and bottom edge.
-fn start() -> Wall {
-    let mut wall = four();
-    wall.slots[0].port.state.cursor = Cursor { column: 11, line: 6 };
-    wall
+fn start() -> Multiplexer {
+    let mut multiplexer = four();
+    multiplexer.slots[0].port.state.cursor = Cursor { column: 11, line: 6 };
+    multiplexer
 }
 
-/// A write to number 7 that changes only its port, by the given change,
+/// A write for client 7 that changes only its port, by the given change,
 /// and its pane, to the given lines; a dot stands for a blank.
 fn check(bytes: &[u8], rows: [&[u8; 3]; 3], bells: usize, change: impl Fn(&mut State)) {
     let mut end = start();
@@ -25,7 +25,7 @@ fn check(bytes: &[u8], rows: [&[u8; 3]; 3], bells: usize, change: impl Fn(&mut S
     check_end(bytes, &end, &screen.screen, bells);
 }
 
-fn check_end(bytes: &[u8], end: &Wall, cells: &[u8], bells: usize) {
+fn check_end(bytes: &[u8], end: &Multiplexer, cells: &[u8], bells: usize) {
     let mut screen = small().screen;
     let answer = write(start(), &mut screen, 7, bytes);
     assert_eq!(answer, (0, *end, bells), "{:02X?}", bytes);
@@ -100,12 +100,12 @@ fn no_code_leaves_the_pane() {
         for parameter in [0x00, 0x07, 0x1F, 0x20, 0x2C, 0x41, 0x6F, 0x7F, 0x80, 0xFF] {
             let bytes = [code, parameter, parameter, parameter, parameter, code, 0x0C, 0x41];
             let mut screen = small().screen;
-            let (status, wall, _) = write(start(), &mut screen, 7, &bytes);
+            let (status, multiplexer, _) = write(start(), &mut screen, 7, &bytes);
             assert_eq!(status, 0);
-            assert!(wall.sound());
-            assert_eq!(wall.slots[0].number, 7);
-            assert_eq!(wall.slots[0].port.home, rectangle(10, 5, 12, 7));
-            assert_eq!(wall.slots[1..], start().slots[1..]);
+            assert!(multiplexer.valid());
+            assert_eq!(multiplexer.slots[0].client, 7);
+            assert_eq!(multiplexer.slots[0].port.home, rectangle(10, 5, 12, 7));
+            assert_eq!(multiplexer.slots[1..], start().slots[1..]);
             check_cells(&blanked(screen, rectangle(10, 5, 12, 7)), &outside);
         }
     }
@@ -115,13 +115,13 @@ fn no_code_leaves_the_pane() {
 fn commands_wait_for_their_own_slot() {
     // $05 to 7, a bell to 200, then the 1 to 7 is its parameter.
     let mut screen = small().screen;
-    let (status, wall, bells) = write(start(), &mut screen, 7, &[0x05]);
+    let (status, multiplexer, bells) = write(start(), &mut screen, 7, &[0x05]);
     let mut waits = start();
     waits.slots[0].port.waiting = 0x05;
-    assert_eq!((status, wall, bells), (0, waits, 0));
-    assert_eq!(write(wall, &mut screen, 200, &[0x07]), (0, waits, 1));
+    assert_eq!((status, multiplexer, bells), (0, waits, 0));
+    assert_eq!(write(multiplexer, &mut screen, 200, &[0x07]), (0, waits, 1));
     check_cells(&screen, &small().screen);
-    assert_eq!(write(wall, &mut screen, 7, &[0x01]), (0, start(), 0));
+    assert_eq!(write(multiplexer, &mut screen, 7, &[0x01]), (0, start(), 0));
     let end = small().but(|c| {
         c.rows([b".ab", b".de", b".gh"]);
     });
@@ -135,10 +135,10 @@ fn block_return_changes_no_slot_and_no_cell() {
     assert_eq!(answer, (0, start(), 11));
     assert_eq!(&block, b"\x03\x03abcdefghi\x55\x55");
     // The viewport counts, which may be smaller than the pane.
-    let mut wall = start();
-    wall.slots[0].port.state.viewport = rectangle(11, 6, 12, 7);
+    let mut multiplexer = start();
+    multiplexer.slots[0].port.state.viewport = rectangle(11, 6, 12, 7);
     let mut block = [0x55; 7];
-    assert_eq!(block_return(wall, &small().screen, 7, &mut block), (0, wall, 6));
+    assert_eq!(block_return(multiplexer, &small().screen, 7, &mut block), (0, multiplexer, 6));
     assert_eq!(&block, b"\x02\x02efhi\x55");
 }
 
@@ -151,9 +151,9 @@ fn block_restore_changes_the_viewport_only() {
         c.rows([b"jkl", b"mno", b"pqr"]);
     });
     check_cells(&screen, &end.screen);
-    let mut wall = start();
-    wall.slots[0].port.state.viewport = rectangle(11, 6, 12, 7);
-    assert_eq!(block_restore(wall, &mut screen, 7, b"\x02\x02stuv"), (0, wall, 0));
+    let mut multiplexer = start();
+    multiplexer.slots[0].port.state.viewport = rectangle(11, 6, 12, 7);
+    assert_eq!(block_restore(multiplexer, &mut screen, 7, b"\x02\x02stuv"), (0, multiplexer, 0));
     let end = small().but(|c| {
         c.rows([b"jkl", b"mst", b"puv"]);
     });
@@ -162,34 +162,34 @@ fn block_restore_changes_the_viewport_only() {
 
 #[test]
 fn handed_out_and_put_back_changes_nothing() {
-    for (number, size) in [(7, 11), (255, 50), (200, 26), (1, 6)] {
+    for (client, size) in [(7, 11), (255, 50), (200, 26), (1, 6)] {
         let mut screen = patterned();
         let mut block = vec![0x55; size];
-        assert_eq!(block_return(four(), &screen, number, &mut block), (0, four(), size));
-        assert_eq!(block_restore(four(), &mut screen, number, &block), (0, four(), 0));
+        assert_eq!(block_return(four(), &screen, client, &mut block), (0, four(), size));
+        assert_eq!(block_restore(four(), &mut screen, client, &block), (0, four(), 0));
         check_cells(&screen, &patterned());
     }
 }
 
 /// One call of the next test, and whether its answer is the right one.
-fn step(call: usize, wall: &mut Wall, screen: &mut [u8]) -> bool {
+fn step(call: usize, multiplexer: &mut Multiplexer, screen: &mut [u8]) -> bool {
     let mut block = *b"???????";
     let (answer, wanted) = match call {
-        0 => (write(*wall, screen, 7, &[0x02, 0x2A, 0x25, 0x2B]), (0, 0)),
-        1 => (write(*wall, screen, 7, &[0x26, 0x42, 0x07]), (0, 1)),
-        2 => (block_return(*wall, screen, 7, &mut block), (0, 6)),
-        3 => (write(*wall, screen, 1, &[0x0F, 0x01, 0x04, 0x41]), (0, 0)),
-        4 => (block_restore(*wall, screen, 1, b"\x02\x02????!"), (10, 0)),
-        5 => (block_restore(*wall, screen, 1, b"\x02\x02wxyz"), (0, 0)),
-        _ => (write(*wall, screen, 9, &[0x07, 0x0C]), (8, 0)),
+        0 => (write(*multiplexer, screen, 7, &[0x02, 0x2A, 0x25, 0x2B]), (0, 0)),
+        1 => (write(*multiplexer, screen, 7, &[0x26, 0x42, 0x07]), (0, 1)),
+        2 => (block_return(*multiplexer, screen, 7, &mut block), (0, 6)),
+        3 => (write(*multiplexer, screen, 1, &[0x0F, 0x01, 0x04, 0x41]), (0, 0)),
+        4 => (block_restore(*multiplexer, screen, 1, b"\x02\x02????!"), (10, 0)),
+        5 => (block_restore(*multiplexer, screen, 1, b"\x02\x02wxyz"), (0, 0)),
+        _ => (write(*multiplexer, screen, 9, &[0x07, 0x0C]), (8, 0)),
     };
     let block_wanted = if call == 2 { b"\x02\x02\x82bde?" } else { b"???????" };
-    *wall = answer.1;
+    *multiplexer = answer.1;
     (answer.0, answer.2) == wanted && &block == block_wanted
 }
 
 #[test]
-fn order_between_numbers_does_not_matter() {
+fn order_between_clients_does_not_matter() {
     let mut end = start();
     end.slots[0].port.state.viewport = rectangle(10, 5, 11, 6);
     end.slots[0].port.state.cursor = Cursor { column: 11, line: 5 };
@@ -203,12 +203,12 @@ fn order_between_numbers_does_not_matter() {
         c.store(78, 22, b'w').store(79, 22, b'x').store(78, 23, b'y').store(79, 23, b'z');
     });
     for order in [[0, 1, 2, 3, 4, 5, 6], [6, 3, 4, 5, 0, 1, 2], [3, 0, 4, 6, 1, 5, 2]] {
-        let mut wall = start();
+        let mut multiplexer = start();
         let mut screen = small().screen;
         for call in order {
-            assert!(step(call, &mut wall, &mut screen), "call {} of {:?}", call, order);
+            assert!(step(call, &mut multiplexer, &mut screen), "call {} of {:?}", call, order);
         }
-        assert_eq!(wall, end);
+        assert_eq!(multiplexer, end);
         check_cells(&screen, &cells.screen);
     }
 }

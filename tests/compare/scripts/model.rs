@@ -1,20 +1,19 @@
-//! The reference's multiplexer and the lent screen between two calls.
+//! The model that calls are made on: the reference's multiplexer and the
+//! lent screen.
 
 use super::call::{Action, Call};
+use crate::multiplexer::{self, Multiplexer, Slot};
 use crate::port::{Port, Rectangle};
-use crate::wall as multiplexer;
 
-pub use crate::wall::Wall as Multiplexer;
-
-pub struct Stage {
+pub struct Model {
     pub multiplexer: Multiplexer,
     pub screen: Vec<u8>,
 }
 
-impl Stage {
+impl Model {
     /// A fresh multiplexer.
-    pub fn new(screen: Vec<u8>) -> Stage {
-        Stage { multiplexer: Multiplexer::fresh(), screen }
+    pub fn new(screen: Vec<u8>) -> Model {
+        Model { multiplexer: Multiplexer::fresh(), screen }
     }
 
     /// Makes a call and gives its status, and the block that a return filled.
@@ -37,18 +36,18 @@ impl Stage {
     }
 }
 
-/// The numbers of the open clients.
+/// The open clients.
 pub fn clients(multiplexer: &Multiplexer) -> Vec<u8> {
-    multiplexer.slots.iter().map(|slot| slot.number).filter(|&number| number != 0).collect()
+    multiplexer.slots.iter().map(|slot| slot.client).filter(|&client| client != 0).collect()
 }
 
 /// Their panes, in the same order.
 pub fn panes(multiplexer: &Multiplexer) -> Vec<Rectangle> {
-    multiplexer.slots.iter().filter(|slot| slot.number != 0).map(|slot| slot.port.home).collect()
+    multiplexer.slots.iter().filter(|slot| slot.client != 0).map(|slot| slot.port.home).collect()
 }
 
 /// The port of an open client; 0 never has one.
 pub fn port(multiplexer: &Multiplexer, client: u8) -> Option<&Port> {
-    let open = |number: u8| number != 0 && number == client;
-    multiplexer.slots.iter().find(|slot| open(slot.number)).map(|slot| &slot.port)
+    let open = |slot: &&Slot| slot.client != 0 && slot.client == client;
+    multiplexer.slots.iter().find(open).map(|slot| &slot.port)
 }

@@ -1,9 +1,9 @@
-//! Fresh walls, opening and closing. The other wall tests start from the
-//! slots and screens made here.
+//! Fresh multiplexers, opening and closing. The other tests of multiplexers
+//! start from the slots and screens made here.
 
 use super::{patterned, rectangle};
+use crate::multiplexer::{close, open, write, Multiplexer, Slot};
 use crate::port::{Cursor, Flags, Port, Rectangle, State};
-use crate::wall::{close, open, write, Slot, Wall};
 
 /// A free slot, every field spelled out.
 pub fn free() -> Slot {
@@ -23,14 +23,14 @@ pub fn free() -> Slot {
         gathered: 0,
         parameters: [0, 0, 0, 0],
     };
-    Slot { number: 0, port }
+    Slot { client: 0, port }
 }
 
 /// A slot just opened: pane, viewport, cursor and flags spelled out, all
 /// else as in a free one.
-pub fn slot(number: u8, left: u8, top: u8, right: u8, bottom: u8) -> Slot {
+pub fn slot(client: u8, left: u8, top: u8, right: u8, bottom: u8) -> Slot {
     let mut slot = free();
-    slot.number = number;
+    slot.client = client;
     slot.port.home = rectangle(left, top, right, bottom);
     slot.port.state.viewport = rectangle(left, top, right, bottom);
     slot.port.state.cursor = Cursor { column: left, line: top };
@@ -38,17 +38,17 @@ pub fn slot(number: u8, left: u8, top: u8, right: u8, bottom: u8) -> Slot {
     slot
 }
 
-/// Numbers 7 and 200 side by side without a gap; slots 1 and 3 are free.
-pub fn two() -> Wall {
-    Wall { slots: [slot(7, 10, 5, 12, 7), free(), slot(200, 13, 5, 20, 7), free()] }
+/// Clients 7 and 200 side by side without a gap; slots 1 and 3 are free.
+pub fn two() -> Multiplexer {
+    Multiplexer { slots: [slot(7, 10, 5, 12, 7), free(), slot(200, 13, 5, 20, 7), free()] }
 }
 
-/// The same with number 255 right below and number 1 in the last corner.
-pub fn four() -> Wall {
-    let mut wall = two();
-    wall.slots[1] = slot(255, 10, 8, 12, 23);
-    wall.slots[3] = slot(1, 78, 22, 79, 23);
-    wall
+/// The same with client 255 right below and client 1 in the last corner.
+pub fn four() -> Multiplexer {
+    let mut multiplexer = two();
+    multiplexer.slots[1] = slot(255, 10, 8, 12, 23);
+    multiplexer.slots[3] = slot(1, 78, 22, 79, 23);
+    multiplexer
 }
 
 /// The screen with blanks in one rectangle.
@@ -71,70 +71,70 @@ pub fn check_cells(got: &[u8], wanted: &[u8]) {
 
 /// An opening that is done: the slot at `place` is the new one, the pane
 /// is blank, and nothing else has changed.
-fn check_open(start: Wall, number: u8, pane: Rectangle, place: usize) -> Wall {
+fn check_open(start: Multiplexer, client: u8, pane: Rectangle, place: usize) -> Multiplexer {
     let mut end = start;
-    end.slots[place] = slot(number, pane.left, pane.top, pane.right, pane.bottom);
+    end.slots[place] = slot(client, pane.left, pane.top, pane.right, pane.bottom);
     let mut screen = patterned();
-    assert_eq!(open(start, &mut screen, number, pane), (0, end, 0));
+    assert_eq!(open(start, &mut screen, client, pane), (0, end, 0));
     check_cells(&screen, &blanked(patterned(), pane));
-    assert!(end.sound());
+    assert!(end.valid());
     end
 }
 
-fn check_open_refused(start: Wall, number: u8, pane: Rectangle, status: u8) {
+fn check_open_refused(start: Multiplexer, client: u8, pane: Rectangle, status: u8) {
     let mut screen = patterned();
-    assert_eq!(open(start, &mut screen, number, pane), (status, start, 0), "{:?}", pane);
+    assert_eq!(open(start, &mut screen, client, pane), (status, start, 0), "{:?}", pane);
     check_cells(&screen, &patterned());
 }
 
 #[test]
-fn fresh_wall_has_four_free_slots() {
-    assert_eq!(Wall::fresh(), Wall { slots: [free(), free(), free(), free()] });
+fn fresh_multiplexer_has_four_free_slots() {
+    assert_eq!(Multiplexer::fresh(), Multiplexer { slots: [free(), free(), free(), free()] });
 }
 
 #[test]
 fn opening_fills_slots_from_the_lowest() {
-    let wall = check_open(Wall::fresh(), 7, rectangle(10, 5, 12, 7), 0);
-    let wall = check_open(wall, 255, rectangle(0, 0, 79, 4), 1);
-    let wall = check_open(wall, 1, rectangle(0, 8, 79, 23), 2);
-    let wall = check_open(wall, 8, rectangle(13, 5, 79, 7), 3);
-    check_open_refused(wall, 9, rectangle(0, 5, 9, 7), 7);
+    let multiplexer = check_open(Multiplexer::fresh(), 7, rectangle(10, 5, 12, 7), 0);
+    let multiplexer = check_open(multiplexer, 255, rectangle(0, 0, 79, 4), 1);
+    let multiplexer = check_open(multiplexer, 1, rectangle(0, 8, 79, 23), 2);
+    let multiplexer = check_open(multiplexer, 8, rectangle(13, 5, 79, 7), 3);
+    check_open_refused(multiplexer, 9, rectangle(0, 5, 9, 7), 7);
 }
 
 #[test]
 fn fifth_opening() {
     check_open_refused(four(), 2, rectangle(0, 0, 9, 4), 7);
     // Once a slot is closed, the same opening is done.
-    let (_, wall, _) = close(four(), 200);
-    check_open(wall, 2, rectangle(0, 0, 9, 4), 2);
+    let (_, multiplexer, _) = close(four(), 200);
+    check_open(multiplexer, 2, rectangle(0, 0, 9, 4), 2);
 }
 
 #[test]
 fn opening_in_a_slot_just_closed() {
-    // The same number in the same pane, then either with another.
-    let (status, wall, _) = close(four(), 255);
+    // The same client in the same pane, then either with another.
+    let (status, multiplexer, _) = close(four(), 255);
     assert_eq!(status, 0);
-    check_open(wall, 255, rectangle(10, 8, 12, 23), 1);
-    check_open(wall, 255, rectangle(0, 0, 9, 4), 1);
-    check_open(wall, 9, rectangle(10, 8, 12, 23), 1);
+    check_open(multiplexer, 255, rectangle(10, 8, 12, 23), 1);
+    check_open(multiplexer, 255, rectangle(0, 0, 9, 4), 1);
+    check_open(multiplexer, 9, rectangle(10, 8, 12, 23), 1);
     // Slots 3 and 0 closed in this order: 0 is taken first, then 3.
-    let (_, wall, _) = close(four(), 1);
-    let (_, wall, _) = close(wall, 7);
-    let wall = check_open(wall, 40, rectangle(0, 0, 9, 4), 0);
-    check_open(wall, 41, rectangle(30, 0, 39, 4), 3);
+    let (_, multiplexer, _) = close(four(), 1);
+    let (_, multiplexer, _) = close(multiplexer, 7);
+    let multiplexer = check_open(multiplexer, 40, rectangle(0, 0, 9, 4), 0);
+    check_open(multiplexer, 41, rectangle(30, 0, 39, 4), 3);
 }
 
 #[test]
 fn free_slots_take_no_cell() {
     // The fields of a free slot hold 0, but it has no pane at (0,0).
-    check_open(Wall::fresh(), 9, rectangle(0, 0, 1, 1), 0);
+    check_open(Multiplexer::fresh(), 9, rectangle(0, 0, 1, 1), 0);
     check_open(two(), 9, rectangle(0, 0, 79, 4), 1);
 }
 
 #[test]
 fn panes_that_touch() {
     // One open pane (10,5,12,7): left, right, above, below, four corners.
-    let start = Wall { slots: [free(), slot(7, 10, 5, 12, 7), free(), free()] };
+    let start = Multiplexer { slots: [free(), slot(7, 10, 5, 12, 7), free(), free()] };
     for pane in [
         rectangle(0, 5, 9, 7),
         rectangle(13, 5, 79, 7),
@@ -151,7 +151,7 @@ fn panes_that_touch() {
 
 #[test]
 fn panes_that_share_cells() {
-    let start = Wall { slots: [free(), slot(7, 10, 5, 12, 7), free(), free()] };
+    let start = Multiplexer { slots: [free(), slot(7, 10, 5, 12, 7), free(), free()] };
     for pane in [
         // Exactly one cell: each corner.
         rectangle(8, 3, 10, 5),
@@ -176,7 +176,7 @@ fn panes_that_share_cells() {
 
 #[test]
 fn pane_counts_and_not_the_viewport() {
-    // Number 7 keeps to (10,5,11,6) for now; its pane is still (10,5,12,7).
+    // Client 7 keeps to (10,5,11,6) for now; its pane is still (10,5,12,7).
     let mut start = two();
     start.slots[0].port.state.viewport = rectangle(10, 5, 11, 6);
     check_open_refused(start, 9, rectangle(0, 7, 10, 9), 6);
@@ -186,11 +186,11 @@ fn pane_counts_and_not_the_viewport() {
 #[test]
 fn pane_of_two_by_two() {
     let pane = rectangle(78, 22, 79, 23);
-    let wall = check_open(Wall::fresh(), 9, pane, 0);
+    let multiplexer = check_open(Multiplexer::fresh(), 9, pane, 0);
     let mut screen = blanked(patterned(), pane);
-    let (status, after, bells) = write(wall, &mut screen, 9, b"ABCDE");
+    let (status, after, bells) = write(multiplexer, &mut screen, 9, b"ABCDE");
     // D fills and scrolls the pane; E lands on its bottom line.
-    let mut end = wall;
+    let mut end = multiplexer;
     end.slots[0].port.state.cursor = Cursor { column: 79, line: 23 };
     assert_eq!((status, after, bells), (0, end, 0));
     let mut wanted = patterned();
@@ -203,13 +203,13 @@ fn pane_of_two_by_two() {
 
 #[test]
 fn whole_screen_as_a_pane() {
-    let wall = check_open(Wall::fresh(), 9, rectangle(0, 0, 79, 23), 0);
-    check_open_refused(wall, 10, rectangle(40, 10, 41, 11), 6);
+    let multiplexer = check_open(Multiplexer::fresh(), 9, rectangle(0, 0, 79, 23), 0);
+    check_open_refused(multiplexer, 10, rectangle(40, 10, 41, 11), 6);
 }
 
 #[test]
 fn closing_sets_every_field_to_zero() {
-    for (place, number) in [(0, 7), (1, 255), (2, 200), (3, 1)] {
+    for (place, client) in [(0, 7), (1, 255), (2, 200), (3, 1)] {
         let mut start = four();
         // Only the last parameter is at 0, as it must be.
         let port = &mut start.slots[place].port;
@@ -220,10 +220,10 @@ fn closing_sets_every_field_to_zero() {
         port.waiting = 0x02;
         port.gathered = 3;
         port.parameters = [1, 2, 3, 0];
-        assert!(start.sound());
+        assert!(start.valid());
         let mut end = start;
         end.slots[place] = free();
-        assert_eq!(close(start, number), (0, end, 0));
-        assert!(end.sound());
+        assert_eq!(close(start, client), (0, end, 0));
+        assert!(end.valid());
     }
 }

@@ -1,36 +1,36 @@
 //! What random runs have reached, and what they should have but have not.
 
 use super::call::{Action, KINDS};
+use super::model::{port, Model};
 use super::refusals::{refusals, REACHABLE, TOGETHER};
 use super::run::Run;
 use super::situations::{Moment, Situations};
-use super::stage::{port, Stage};
 use crate::port::{parameters_needed, Port};
 
 /// How often each was reached.
 #[derive(Default)]
-pub struct Reached {
+pub struct Coverage {
     /// By kind and status.
     statuses: [[u64; 11]; 5],
     /// By kind and two refusals that apply at once, the smaller first.
     together: [[[u64; 11]; 11]; 5],
-    /// Control codes obeyed by clients.
+    /// Control codes executed by clients.
     codes: [u64; 32],
     situations: Situations,
 }
 
-impl Reached {
+impl Coverage {
     /// Makes a run's calls on the reference's multiplexer and notes what
     /// they reach. Tells in words where the reference does not give the
     /// smallest refusal that applies.
     pub fn follow(&mut self, run: &Run) -> Result<(), String> {
-        let mut stage = Stage::new(run.screen.clone());
+        let mut model = Model::new(run.screen.clone());
         let mut before = None;
         let mut returned = None;
         for call in run.made() {
-            let multiplexer = stage.multiplexer;
+            let multiplexer = model.multiplexer;
             let applying = refusals(call, &multiplexer, run.screen.len());
-            let (status, block) = stage.make(call);
+            let (status, block) = model.make(call);
             let smallest = applying.first().copied().unwrap_or(0);
             if status != smallest {
                 return Err(format!("status {} and not {} for {}", status, smallest, call));

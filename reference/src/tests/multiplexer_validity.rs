@@ -1,8 +1,8 @@
-//! Each clause of a wall's soundness, broken once.
+//! Each clause of a multiplexer's validity, broken once.
 
-use super::walls::{four, free, slot, two};
+use super::multiplexers::{four, free, slot, two};
+use crate::multiplexer::{Multiplexer, Slot};
 use crate::port::{Port, State};
-use crate::wall::{Slot, Wall};
 
 /// A slot's fields, each changed alone to something else than 0 or false.
 fn changed_fields(start: Slot) -> Vec<Slot> {
@@ -55,28 +55,28 @@ fn changed_states(start: State) -> Vec<State> {
     states
 }
 
-/// A wall with one open slot or changed free slot at this place.
-fn only(place: usize, slot: Slot) -> Wall {
-    let mut wall = Wall { slots: [free(), free(), free(), free()] };
-    wall.slots[place] = slot;
-    wall
+/// A multiplexer with one open slot or changed free slot at this place.
+fn only(place: usize, slot: Slot) -> Multiplexer {
+    let mut multiplexer = Multiplexer { slots: [free(), free(), free(), free()] };
+    multiplexer.slots[place] = slot;
+    multiplexer
 }
 
-/// A wall with two such slots.
-fn pair(first: usize, one: Slot, second: usize, other: Slot) -> Wall {
-    let mut wall = only(first, one);
-    wall.slots[second] = other;
-    wall
+/// A multiplexer with two such slots.
+fn pair(first: usize, one: Slot, second: usize, other: Slot) -> Multiplexer {
+    let mut multiplexer = only(first, one);
+    multiplexer.slots[second] = other;
+    multiplexer
 }
 
 #[test]
-fn sound_walls() {
-    assert!(Wall { slots: [free(), free(), free(), free()] }.sound());
-    assert!(two().sound());
-    assert!(four().sound());
+fn valid_multiplexers() {
+    assert!(Multiplexer { slots: [free(), free(), free(), free()] }.valid());
+    assert!(two().valid());
+    assert!(four().valid());
     for place in 0..4 {
-        assert!(only(place, slot(1, 0, 0, 1, 1)).sound());
-        assert!(only(place, slot(255, 0, 0, 79, 23)).sound());
+        assert!(only(place, slot(1, 0, 0, 1, 1)).valid());
+        assert!(only(place, slot(255, 0, 0, 79, 23)).valid());
     }
     // A port that is not fresh any more.
     let mut used = slot(7, 10, 5, 12, 7);
@@ -86,11 +86,11 @@ fn sound_walls() {
     used.port.waiting = 0x1E;
     used.port.gathered = 1;
     used.port.parameters[0] = 0xFF;
-    assert!(pair(3, used, 1, slot(8, 13, 5, 14, 7)).sound());
+    assert!(pair(3, used, 1, slot(8, 13, 5, 14, 7)).valid());
 }
 
 #[test]
-fn open_slots_have_sound_ports() {
+fn open_slots_have_valid_ports() {
     for place in 0..4 {
         for fault in 0..6 {
             let mut broken = slot(7, 10, 5, 12, 7);
@@ -103,40 +103,40 @@ fn open_slots_have_sound_ports() {
                 4 => port.waiting = 0x07,
                 _ => port.parameters[0] = 1,
             }
-            assert!(!only(place, broken).sound(), "place {}, fault {}", place, fault);
+            assert!(!only(place, broken).valid(), "place {}, fault {}", place, fault);
         }
-        // All 0 but the number is no open slot.
-        assert!(!only(place, Slot { number: 9, ..free() }).sound());
+        // All 0 but the client is no open slot.
+        assert!(!only(place, Slot { client: 9, ..free() }).valid());
     }
 }
 
 #[test]
-fn number_0_marks_a_free_slot() {
+fn client_0_marks_a_free_slot() {
     for place in 0..4 {
-        // An open slot's port with number 0.
-        assert!(!only(place, slot(0, 10, 5, 12, 7)).sound());
-        let mut wall = four();
-        wall.slots[place].number = 0;
-        assert!(!wall.sound());
+        // An open slot's port with client 0.
+        assert!(!only(place, slot(0, 10, 5, 12, 7)).valid());
+        let mut multiplexer = four();
+        multiplexer.slots[place].client = 0;
+        assert!(!multiplexer.valid());
     }
 }
 
 #[test]
-fn numbers_are_different() {
+fn clients_are_different() {
     for first in 0..4 {
         for second in 0..4 {
-            let mut wall = four();
-            wall.slots[first].number = wall.slots[second].number;
-            assert_eq!(wall.sound(), first == second, "places {} {}", first, second);
+            let mut multiplexer = four();
+            multiplexer.slots[first].client = multiplexer.slots[second].client;
+            assert_eq!(multiplexer.valid(), first == second, "places {} {}", first, second);
         }
     }
     // Four different ones of any value.
-    for number in 4..=255 {
-        let mut wall = four();
+    for client in 4..=255 {
+        let mut multiplexer = four();
         for place in 0..4 {
-            wall.slots[place].number = number - place as u8;
+            multiplexer.slots[place].client = client - place as u8;
         }
-        assert!(wall.sound());
+        assert!(multiplexer.valid());
     }
 }
 
@@ -149,20 +149,20 @@ fn panes_share_no_cell() {
             }
             let one = slot(7, 10, 5, 12, 7);
             // Exactly one cell: each corner.
-            assert!(!pair(first, one, second, slot(8, 8, 3, 10, 5)).sound());
-            assert!(!pair(first, one, second, slot(8, 12, 3, 14, 5)).sound());
-            assert!(!pair(first, one, second, slot(8, 8, 7, 10, 9)).sound());
-            assert!(!pair(first, one, second, slot(8, 12, 7, 14, 9)).sound());
+            assert!(!pair(first, one, second, slot(8, 8, 3, 10, 5)).valid());
+            assert!(!pair(first, one, second, slot(8, 12, 3, 14, 5)).valid());
+            assert!(!pair(first, one, second, slot(8, 8, 7, 10, 9)).valid());
+            assert!(!pair(first, one, second, slot(8, 12, 7, 14, 9)).valid());
             // The same, inside, around, crossed like a plus sign.
-            assert!(!pair(first, one, second, slot(8, 10, 5, 12, 7)).sound());
-            assert!(!pair(first, one, second, slot(8, 11, 6, 12, 7)).sound());
-            assert!(!pair(first, one, second, slot(8, 0, 0, 79, 23)).sound());
-            assert!(!pair(first, one, second, slot(8, 11, 0, 12, 23)).sound());
+            assert!(!pair(first, one, second, slot(8, 10, 5, 12, 7)).valid());
+            assert!(!pair(first, one, second, slot(8, 11, 6, 12, 7)).valid());
+            assert!(!pair(first, one, second, slot(8, 0, 0, 79, 23)).valid());
+            assert!(!pair(first, one, second, slot(8, 11, 0, 12, 23)).valid());
             // One cell further away they only touch.
-            assert!(pair(first, one, second, slot(8, 8, 3, 9, 5)).sound());
-            assert!(pair(first, one, second, slot(8, 13, 3, 14, 5)).sound());
-            assert!(pair(first, one, second, slot(8, 8, 8, 10, 9)).sound());
-            assert!(pair(first, one, second, slot(8, 12, 8, 14, 9)).sound());
+            assert!(pair(first, one, second, slot(8, 8, 3, 9, 5)).valid());
+            assert!(pair(first, one, second, slot(8, 13, 3, 14, 5)).valid());
+            assert!(pair(first, one, second, slot(8, 8, 8, 10, 9)).valid());
+            assert!(pair(first, one, second, slot(8, 12, 8, 14, 9)).valid());
         }
     }
 }
@@ -174,9 +174,9 @@ fn panes_count_and_not_the_viewports() {
     let mut other = slot(8, 12, 5, 20, 7);
     other.port.state.viewport.left = 15;
     other.port.state.cursor.column = 15;
-    assert!(only(0, one).sound());
-    assert!(only(0, other).sound());
-    assert!(!pair(0, one, 1, other).sound());
+    assert!(only(0, one).valid());
+    assert!(only(0, other).valid());
+    assert!(!pair(0, one, 1, other).valid());
 }
 
 #[test]
@@ -185,14 +185,14 @@ fn free_slots_hold_zero() {
     assert_eq!(changed_fields(free()).len(), 37);
     for place in 0..4 {
         for slot in changed_fields(free()) {
-            assert!(!only(place, slot).sound(), "place {}, {:?}", place, slot);
+            assert!(!only(place, slot).valid(), "place {}, {:?}", place, slot);
         }
     }
     for slot in changed_fields(free()) {
         for place in [1, 3] {
-            let mut wall = two();
-            wall.slots[place] = slot;
-            assert!(!wall.sound(), "place {}, {:?}", place, slot);
+            let mut multiplexer = two();
+            multiplexer.slots[place] = slot;
+            assert!(!multiplexer.valid(), "place {}, {:?}", place, slot);
         }
     }
 }

@@ -1,9 +1,9 @@
-//! Each clause of a port's soundness, broken once.
+//! Each clause of a port's validity, broken once.
 
 use super::{rectangle, small};
 use crate::port::{Cursor, Flags, Port, Rectangle, State};
 
-/// A sound port whose home leaves room on every side of the viewport.
+/// A valid port whose home leaves room on every side of the viewport.
 fn port() -> Port {
     let mut port = small().port;
     port.home = rectangle(8, 3, 14, 9);
@@ -34,54 +34,54 @@ fn with_cursor(column: u8, line: u8) -> Port {
 }
 
 #[test]
-fn sound_ports() {
-    assert!(Port::fresh().sound());
-    assert!(Port::fresh_in(rectangle(78, 22, 79, 23)).sound());
-    assert!(port().sound());
-    assert!(with_save().sound());
+fn valid_ports() {
+    assert!(Port::fresh().valid());
+    assert!(Port::fresh_in(rectangle(78, 22, 79, 23)).valid());
+    assert!(port().valid());
+    assert!(with_save().valid());
     for (column, line) in [(10, 5), (12, 5), (10, 7), (12, 7)] {
-        assert!(with_cursor(column, line).sound());
+        assert!(with_cursor(column, line).valid());
     }
-    assert!(with_viewport(rectangle(8, 3, 14, 9)).sound());
-    assert!(with_viewport(rectangle(11, 6, 12, 7)).sound());
+    assert!(with_viewport(rectangle(8, 3, 14, 9)).valid());
+    assert!(with_viewport(rectangle(11, 6, 12, 7)).valid());
 }
 
 #[test]
 fn home_is_legal() {
     // Past the screen, with the viewport still inside.
-    assert!(!with_home(rectangle(0, 0, 80, 23)).sound());
-    assert!(!with_home(rectangle(0, 0, 79, 24)).sound());
-    assert!(!with_home(rectangle(0, 0, 255, 255)).sound());
+    assert!(!with_home(rectangle(0, 0, 80, 23)).valid());
+    assert!(!with_home(rectangle(0, 0, 79, 24)).valid());
+    assert!(!with_home(rectangle(0, 0, 255, 255)).valid());
     // One column, one line, crossed.
-    assert!(!Port::fresh_in(rectangle(5, 5, 5, 6)).sound());
-    assert!(!Port::fresh_in(rectangle(5, 5, 6, 5)).sound());
-    assert!(!Port::fresh_in(rectangle(6, 5, 5, 6)).sound());
-    assert!(!Port::fresh_in(rectangle(5, 6, 6, 5)).sound());
+    assert!(!Port::fresh_in(rectangle(5, 5, 5, 6)).valid());
+    assert!(!Port::fresh_in(rectangle(5, 5, 6, 5)).valid());
+    assert!(!Port::fresh_in(rectangle(6, 5, 5, 6)).valid());
+    assert!(!Port::fresh_in(rectangle(5, 6, 6, 5)).valid());
 }
 
 #[test]
 fn viewport_is_legal() {
-    assert!(!with_viewport(rectangle(11, 5, 11, 7)).sound());
-    assert!(!with_viewport(rectangle(10, 6, 12, 6)).sound());
-    assert!(!with_viewport(rectangle(12, 5, 10, 7)).sound());
-    assert!(!with_viewport(rectangle(10, 7, 12, 5)).sound());
+    assert!(!with_viewport(rectangle(11, 5, 11, 7)).valid());
+    assert!(!with_viewport(rectangle(10, 6, 12, 6)).valid());
+    assert!(!with_viewport(rectangle(12, 5, 10, 7)).valid());
+    assert!(!with_viewport(rectangle(10, 7, 12, 5)).valid());
 }
 
 #[test]
 fn viewport_is_inside_home() {
-    assert!(!with_viewport(rectangle(7, 5, 12, 7)).sound());
-    assert!(!with_viewport(rectangle(10, 2, 12, 7)).sound());
-    assert!(!with_viewport(rectangle(10, 5, 15, 7)).sound());
-    assert!(!with_viewport(rectangle(10, 5, 12, 10)).sound());
+    assert!(!with_viewport(rectangle(7, 5, 12, 7)).valid());
+    assert!(!with_viewport(rectangle(10, 2, 12, 7)).valid());
+    assert!(!with_viewport(rectangle(10, 5, 15, 7)).valid());
+    assert!(!with_viewport(rectangle(10, 5, 12, 10)).valid());
 }
 
 #[test]
 fn cursor_lies_in_the_viewport() {
-    assert!(!with_cursor(9, 6).sound());
-    assert!(!with_cursor(13, 6).sound());
-    assert!(!with_cursor(11, 4).sound());
-    assert!(!with_cursor(11, 8).sound());
-    assert!(!with_cursor(255, 255).sound());
+    assert!(!with_cursor(9, 6).valid());
+    assert!(!with_cursor(13, 6).valid());
+    assert!(!with_cursor(11, 4).valid());
+    assert!(!with_cursor(11, 8).valid());
+    assert!(!with_cursor(255, 255).valid());
 }
 
 #[test]
@@ -97,15 +97,15 @@ fn saved_port_obeys_the_same() {
     for viewport in viewports {
         let mut port = with_save();
         port.saved.viewport = viewport;
-        assert!(!port.sound(), "{:?}", viewport);
+        assert!(!port.valid(), "{:?}", viewport);
     }
     for (column, line) in [(9, 6), (13, 6), (11, 4), (11, 8)] {
         let mut port = with_save();
         port.saved.cursor = Cursor { column, line };
-        assert!(!port.sound(), "({},{})", column, line);
+        assert!(!port.valid(), "({},{})", column, line);
     }
-    // All 0 is no sound saved port.
-    assert!(!Port { has_saved: true, ..port() }.sound());
+    // All 0 is no valid saved port.
+    assert!(!Port { has_saved: true, ..port() }.valid());
 }
 
 #[test]
@@ -127,11 +127,11 @@ fn nothing_saved_holds_zero() {
         State { flags: Flags { advance: true, ..flags }, ..none },
         State { inverse: true, ..none },
         State { mousetext: true, ..none },
-        // A state that would be sound if it were marked as saved.
+        // A state that would be valid if it were marked as saved.
         port().state,
     ];
     for saved in changed {
-        assert!(!Port { saved, ..port() }.sound(), "{:?}", saved);
+        assert!(!Port { saved, ..port() }.valid(), "{:?}", saved);
     }
 }
 
@@ -139,7 +139,7 @@ fn nothing_saved_holds_zero() {
 fn waiting_code_is_none_or_one_of_seven() {
     for waiting in 0..=255 {
         let allowed = [0x00, 0x02, 0x05, 0x06, 0x10, 0x14, 0x15, 0x1E].contains(&waiting);
-        assert_eq!(Port { waiting, ..port() }.sound(), allowed, "code {:02X}", waiting);
+        assert_eq!(Port { waiting, ..port() }.valid(), allowed, "code {:02X}", waiting);
     }
 }
 
@@ -150,7 +150,7 @@ fn fewer_are_gathered_than_needed() {
     for (waiting, needed) in needs {
         for gathered in 0..=255 {
             let port = Port { waiting, gathered, ..port() };
-            assert_eq!(port.sound(), gathered < needed, "code {:02X}, {}", waiting, gathered);
+            assert_eq!(port.valid(), gathered < needed, "code {:02X}, {}", waiting, gathered);
         }
     }
 }
@@ -162,7 +162,7 @@ fn places_not_gathered_hold_zero() {
         for place in 0..4 {
             let mut port = Port { waiting, gathered, ..port() };
             port.parameters[place] = 7;
-            assert_eq!(port.sound(), place < gathered as usize, "{:02X} {}", waiting, place);
+            assert_eq!(port.valid(), place < gathered as usize, "{:02X} {}", waiting, place);
         }
     }
 }

@@ -76,8 +76,8 @@ more (x ∷ cs) m s c =
     record { multiplexer = rest .multiplexer; screen = rest .screen }
 
 each-isolated : (m : Multiplexer) (s : List ℕ) (cs : List Call) → validMultiplexer m ≡ true → length s ≡ 1920 → Isolated serve m s cs
-each-isolated m s cs validPort l =
-    let v = decides-multiplexer m .holds validPort in
+each-isolated m s cs valid l =
+    let v = decides-multiplexer m .holds valid in
     let k = stays cs m s v l in
     let own : (i : ℕ) (o : Open m i) → Follows i (slotAt m i .client) (o .0) (o .1) m s (slotAt m i .port) s cs =
     λ i o. follows i (slotAt m i .client) (o .0) (o .1) cs m s (slotAt m i .port) s v l l refl (λ j h. refl) in

@@ -3,8 +3,9 @@ use Prim.Native.Nat.{ℕ, zero, suc, _+_, _-_, _*_}
 use mathlib.Core.Bool.{Bool, cond, _&&_}
 use mathlib.Core.List.{List, [], _∷_, _++_}
 use lib.Dec.{eqb}
-use lib.ListN.{length, take, drop, getD}
+use lib.ListN.{length, getD}
 use Rattle.laws.specs.Tabulate.{tabulate}
+use Rattle.laws.specs.Parts.{Stretch, stretch, bytesOf}
 use Rattle.rectangle.specs.declared.Rect.{Rect}
 use Rattle.rectangle.specs.Cells.{columnOf, lineOf, cellIndex, inside}
 use Rattle.rectangle.specs.Rectangles.{widthOf, heightOf}
@@ -13,12 +14,16 @@ use Rattle.rectangle.specs.Rectangles.{widthOf, heightOf}
 unfoldable pub blockLength : Rect → ℕ
 blockLength r = 2 + widthOf r * heightOf r
 
--- 'a row of a port's viewport .. by its number, 0 at the top': that stretch of the screen
+-- 'a row of a port's viewport .. by its number, 0 at the top': where it starts
 unfoldable pub rowStart : Rect → ℕ → ℕ
 rowStart r row = cellIndex (r .left) (r .top + row)
 
+-- 'that stretch of the lent screen'
+abbrev pub rowStretch : Rect → ℕ → Stretch
+rowStretch r row = stretch (rowStart r row) (widthOf r)
+
 unfoldable pub rowCells : Rect → ℕ → List ℕ → List ℕ
-rowCells r row s = take (widthOf r) (drop (rowStart r row) s)
+rowCells r row s = bytesOf (rowStretch r row) s
 
 -- the cells of count rows 'line by line', the first of them row
 unfoldable pub rowsFrom : Rect → ℕ → ℕ → List ℕ → List ℕ

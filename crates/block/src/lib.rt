@@ -10,8 +10,9 @@ ghost use mathlib.Core.Path.{_≡_};
 ghost use mathlib.Core.List.{_++_};
 ghost use Prim.Native.Nat.{_+_, _*_, _≤_, _<_};
 ghost use lib.ListN.{length, drop};
+ghost use Rattle.laws.specs.Parts.{IsPart};
 ghost use Rattle.rectangle.specs.Rectangles.{OnScreen, widthOf, heightOf};
-ghost use Rattle.block.specs.Block.{blockLength, blockFits, rowCells, blockOf, restored};
+ghost use Rattle.block.specs.Block.{blockLength, blockFits, rowStretch, blockOf, restored};
 
 // The bytes of a block: 2 + width x height.
 pub fn block_length(rect: Rect) -> usize
@@ -33,9 +34,9 @@ pub fn block_fits(rect: Rect, block: &[u8]) -> bool
 }
 
 // A row of the rectangle, 0 at the top: that stretch of the lent screen itself.
-pub fn row_cells(screen: &[u8], rect: Rect, row: usize) -> &[u8]
+pub fn row_stretch(screen: &[u8], rect: Rect, row: usize) -> &[u8]
     requires { ⌜ OnScreen rect × (row < heightOf rect) × (length (now screen) ≡ 1920) ⌝ }
-    ensures { λ r. ⌜ now r ≡ rowCells rect row (now (screen .entry)) ⌝ }
+    ensures { λ r. ⌜ IsPart (screen .entry) r (rowStretch rect row) ⌝ }
 {
     part_of_line(
         screen,

@@ -1,11 +1,11 @@
 // The room for a call's answer: the status and the count, a returned block, and every byte of the lent screen.
 ghost use mathlib.Core.Path.{_≡_};
-ghost use mathlib.Core.Bool.{true};
-ghost use Prim.Native.Nat.{_+_, _≤_};
+ghost use Prim.Native.Nat.{_+_};
+ghost use lib.Dec.{leb};
 
 // Whether an answer with a lent block and a screen of these lengths has room.
 pub fn has_room(room: usize, lent: usize, cells: usize) -> bool
-    ensures { λ r. ⌜ (r ≡ true → 5 + lent + cells ≤ room) ⌝ }
+    ensures { λ r. ⌜ r ≡ leb (5 + lent + cells) room ⌝ }
 {
     if room < 5 {
         return false;

@@ -5,9 +5,10 @@ use mathlib.Core.List.{List}
 use native.Mathlib.Omega.{arith}
 use lib.ListN.{length, take}
 use borrow.Author.Tests.{lt-ltb}
+use Rattle.laws.specs.Parts.{Stretch, bytesOf}
 use Rattle.rectangle.specs.Rectangles.{heightOf}
 use Rattle.screen.proofs.Sizes.{decides-screen}
-use Rattle.block.specs.Block.{blockLength, rowCells}
+use Rattle.block.specs.Block.{blockLength, rowCells, rowStretch}
 use Rattle.block.proofs.Rows.{row-not-empty}
 use Rattle.port.specs.declared.Port.{Port}
 use Rattle.port.specs.Valid.{ValidPort}
@@ -38,14 +39,15 @@ module _ (p : Port) (s block : List ℕ) (v : ValidPort p) (len : length s ≡ 1
     screen = ap (λ (r : PortReply). r .screen) again;
   }
 
--- a good row is that stretch of the screen, and never empty
+-- a good row is that stretch of the lent screen, and never empty
 module _ (p : Port) (s : List ℕ) (row : ℕ) (v : ValidPort p) (len : length s ≡ 1920) (low : row < heightOf (p .view .viewport)) where
-  pub row-shown : rowCall p s row ≡ rowCells (p .view .viewport) row s
+  pub row-shown : rowCall p (length s) row ≡ rowStretch (p .view .viewport) row
   unfolding rowCall
   row-shown = simp (decides-screen (length s) .passes len, decides-valid p .passes v, lt-ltb row (heightOf (p .view .viewport)) low)
 
-  pub row-has-cells : 0 < length (rowCall p s row)
+  pub row-has-cells : 0 < length (bytesOf (rowCall p (length s) row) s)
+  unfolding rowCells
   row-has-cells =
       let wide = v .view .legal .wide in
-      let size = ap length row-shown ∙ row-not-empty (p .view .viewport) row s (viewport-on-screen p v) low len in
+      let size = ap (λ (x : Stretch). length (bytesOf x s)) row-shown ∙ row-not-empty (p .view .viewport) row s (viewport-on-screen p v) low len in
       omega arith

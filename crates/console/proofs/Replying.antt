@@ -1,16 +1,18 @@
 -- Each way through a plain call, and the reply that it is. Assumes nothing.
 use Prim.Native.Nat.{ℕ, _≤_, _<_}
-use mathlib.Core.Path.{_≡_, refl, sym, _∙_}
+use mathlib.Core.Path.{_≡_, refl, sym, subst, _∙_}
 use mathlib.Core.Bool.{Bool, true, false, cond, _&&_}
-use mathlib.Core.List.{List, []}
+use mathlib.Core.List.{List}
 use native.Mathlib.Omega.{arith}
 use lib.ListN.{length}
 use borrow.Author.Tests.{lt-ltb, le-ltb}
+use denote.Ref.{RefT, now}
+use Rattle.laws.specs.Parts.{noStretch, IsPart}
 use Rattle.laws.proofs.Tests.{and-both}
 use Rattle.rectangle.specs.Rectangles.{OnScreen, heightOf}
 use Rattle.screen.specs.Size.{isScreen}
 use Rattle.screen.proofs.Sizes.{decides-screen}
-use Rattle.block.specs.Block.{rowCells}
+use Rattle.block.specs.Block.{rowStretch}
 use Rattle.port.specs.declared.Port.{Port}
 use Rattle.port.specs.Valid.{validPort, ValidPort}
 use Rattle.port.proofs.Validity.{decides-valid, viewport-on-screen}
@@ -27,7 +29,7 @@ use Rattle.console.specs.declared.ByteAnswer.{ByteAnswer}
 use Rattle.console.specs.Calls.{portVerdict, plainVerdict, plainCall, rowCall}
 
 module _ (p : Port) (s : List ℕ) (j : Verdict) (is : j ≡ plainVerdict p (length s)) where
-  -- ---- what a judgement shows
+  -- ---- what a verdict shows
   both : j ≡ Accepted → (screenVerdict (length s) ≡ Accepted) × (portVerdict p ≡ Accepted)
   unfolding plainVerdict
   both e = both-accepted (screenVerdict (length s)) (portVerdict p) (sym is ∙ e)
@@ -52,9 +54,9 @@ module _ (p : Port) (s : List ℕ) (j : Verdict) (is : j ≡ plainVerdict p (len
     replies-made a t after e h = rw (made 0 p s block (call p s block) (sym is ∙ e)) h
 
   -- ---- rows
-  pub row-refused : (row : ℕ) (t : List ℕ) (status : Status) → j ≡ Refused status → t ≡ [] → t ≡ rowCall p s row
+  no-row : (row : ℕ) (status : Status) → j ≡ Refused status → rowCall p (length s) row ≡ noStretch
   unfolding rowCall plainVerdict screenVerdict portVerdict firstOf
-  row-refused row t status e empty = simp (bad (isScreen (length s)) (validPort p) (sym is ∙ e)) empty
+  no-row row status e = simp (bad (isScreen (length s)) (validPort p) (sym is ∙ e))
     where
       bad : (a b : Bool) → firstOf (cond a Accepted (Refused ScreenLength)) (cond b Accepted (Refused Invalid)) ≡ Refused status → (a && b) ≡ false
       bad true true h = absurd (let z : _≡_ {A = ℕ} 0 1 = cc in omega arith)
@@ -64,15 +66,26 @@ module _ (p : Port) (s : List ℕ) (j : Verdict) (is : j ≡ plainVerdict p (len
   good : j ≡ Accepted → (isScreen (length s) && validPort p) ≡ true
   good e = and-both _ _ (decides-screen (length s) .passes (accepted-size e)) (decides-valid p .passes (accepted-port e))
 
-  pub row-past : (row n : ℕ) (t : List ℕ) → j ≡ Accepted → n ≡ heightOf (p .view .viewport) → n ≤ row → t ≡ [] → t ≡ rowCall p s row
+  past-row : (row n : ℕ) → j ≡ Accepted → n ≡ heightOf (p .view .viewport) → n ≤ row → rowCall p (length s) row ≡ noStretch
   unfolding rowCall
-  row-past row n t e h far empty = simp (good e, le-ltb row (heightOf (p .view .viewport)) (omega arith)) empty
+  past-row row n e h far = simp (good e, le-ltb row (heightOf (p .view .viewport)) (omega arith))
 
-  pub row-good : (row n : ℕ) (t : List ℕ) → j ≡ Accepted → n ≡ heightOf (p .view .viewport) → row < n → t ≡ rowCells (p .view .viewport) row s → t ≡ rowCall p s row
+  a-row : (row n : ℕ) → j ≡ Accepted → n ≡ heightOf (p .view .viewport) → row < n → rowCall p (length s) row ≡ rowStretch (p .view .viewport) row
   unfolding rowCall
-  row-good row n t e h small cut = simp (good e, lt-ltb row (heightOf (p .view .viewport)) (omega arith)) cut
+  a-row row n e h small = simp (good e, lt-ltb row (heightOf (p .view .viewport)) (omega arith))
 
--- what a judgement shows, for `search`
+-- ---- the part of the lent screen that a row view hands back
+module _ (p : Port) (lent part : RefT (List ℕ)) (j : Verdict) (is : j ≡ plainVerdict p (length (now lent))) (row : ℕ) where
+  pub row-refused : (status : Status) → j ≡ Refused status → IsPart lent part noStretch → IsPart lent part (rowCall p (length (now lent)) row)
+  row-refused status e h = subst (IsPart lent part) (sym (no-row p (now lent) j is row status e)) h
+
+  pub row-past : (n : ℕ) → j ≡ Accepted → n ≡ heightOf (p .view .viewport) → n ≤ row → IsPart lent part noStretch → IsPart lent part (rowCall p (length (now lent)) row)
+  row-past n e high far h = subst (IsPart lent part) (sym (past-row p (now lent) j is row n e high far)) h
+
+  pub row-good : (n : ℕ) → j ≡ Accepted → n ≡ heightOf (p .view .viewport) → row < n → IsPart lent part (rowStretch (p .view .viewport) row) → IsPart lent part (rowCall p (length (now lent)) row)
+  row-good n e high small h = subst (IsPart lent part) (sym (a-row p (now lent) j is row n e high small)) h
+
+-- what a verdict shows, for `search`
 pub ruleset acceptances = (accepted-size, accepted-port, accepted-viewport)
 
 -- the one-byte call's answer, put together with its port

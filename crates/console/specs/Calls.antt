@@ -1,12 +1,12 @@
 -- Paper 01, 'What comes back' and 'Blocks, rows, one byte': the plain calls, with their refusals. Assumes nothing.
 use Prim.Native.Nat.{ℕ}
 use mathlib.Core.Bool.{cond, _&&_}
-use mathlib.Core.List.{List, []}
 use lib.Dec.{ltb}
 use lib.ListN.{length}
+use Rattle.laws.specs.Parts.{Stretch, noStretch}
 use Rattle.rectangle.specs.Rectangles.{wholeScreen, heightOf}
 use Rattle.screen.specs.Size.{isScreen}
-use Rattle.block.specs.Block.{rowCells}
+use Rattle.block.specs.Block.{rowStretch}
 use Rattle.port.specs.declared.Port.{Port}
 use Rattle.port.specs.State.{freshPort}
 use Rattle.port.specs.Valid.{validPort}
@@ -43,6 +43,5 @@ abbrev pub restoreCall : PortCall
 restoreCall = plainCall blockRestored
 
 -- row view: 'that stretch of the lent screen itself .. an empty stretch if the row, screen length or port is bad'
-unfoldable pub rowCall : Port → List ℕ → ℕ → List ℕ
-rowCall p s row =
-    cond ((isScreen (length s) && validPort p) && ltb row (heightOf (p .view .viewport))) (rowCells (p .view .viewport) row s) []
+unfoldable pub rowCall : Port → ℕ → ℕ → Stretch
+rowCall p size row = cond ((isScreen size && validPort p) && ltb row (heightOf (p .view .viewport))) (rowStretch (p .view .viewport) row) noStretch

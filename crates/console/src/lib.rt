@@ -1,6 +1,6 @@
 // The plain console of paper 01: what a host calls. No public function has a `requires`: every input, refused or not, has its equation.
 // A call is judged here and made in `calls`.
-use block::row_cells;
+use block::row_stretch;
 use calls::Answer;
 use calls::Verdict;
 use calls::answer_of;
@@ -15,6 +15,8 @@ use reply::Status;
 use screen::no_cells;
 ghost use mathlib.Core.Path.{_≡_};
 ghost use mathlib.Core.List.{[], _∷_};
+ghost use lib.ListN.{length};
+ghost use Rattle.laws.specs.Parts.{IsPart};
 ghost use Rattle.reply.specs.Reply.{Replies};
 ghost use Rattle.calls.specs.Calls.{answerOf};
 ghost use Rattle.console.specs.Calls.{freshConsole, writeCall, returnCall, restoreCall, rowCall, portVerdict, plainVerdict};
@@ -79,8 +81,8 @@ pub fn write(p: Port, screen: &mut [u8], bytes: &[u8]) -> Answer
     }
 }
 
-// A write of one byte.
-pub fn write_byte(p: Port, screen: &mut [u8], byte: u8) -> Answer
+// A write of one byte by value: the step of the one-byte call.
+fn write_byte(p: Port, screen: &mut [u8], byte: u8) -> Answer
     ensures { λ r. ⌜ Replies (writeCall p (now (screen .entry)) (byte ∷ [])) (r .status) (r .port) (r .count) (now (screen .exit)) (byte ∷ []) ⌝ }
 {
     let verdict = plain_verdict_inlined(p, screen.len());
@@ -161,7 +163,7 @@ pub fn restore_block(p: Port, screen: &mut [u8], block: &[u8]) -> Answer
 
 // A row of the viewport, 0 at the top: that stretch of the lent screen itself, or an empty one.
 pub fn row_view(p: Port, screen: &[u8], row: usize) -> &[u8]
-    ensures { λ r. ⌜ now r ≡ rowCall p (now (screen .entry)) row ⌝ }
+    ensures { λ r. ⌜ IsPart (screen .entry) r (rowCall p (length (now (screen .entry))) row) ⌝ }
 {
     let verdict = plain_verdict(p, screen.len());
     match verdict {
@@ -169,7 +171,7 @@ pub fn row_view(p: Port, screen: &[u8], row: usize) -> &[u8]
         Verdict::Accepted => {
             let rect = p.view.viewport;
             if row < height_of(rect) as usize {
-                return row_cells(screen, rect, row);
+                return row_stretch(screen, rect, row);
             }
             no_cells(screen)
         }

@@ -8,8 +8,8 @@ use rectangle::Rect;
 use rectangle::width_of;
 ghost use mathlib.Core.Path.{_≡_};
 ghost use Prim.Native.Nat.{_+_, _-_, _*_, _≤_, _<_, min};
-ghost use mathlib.Core.List.{[]};
-ghost use lib.ListN.{length, take, drop};
+ghost use lib.ListN.{length};
+ghost use Rattle.laws.specs.Parts.{stretch, noStretch, IsPart};
 ghost use Rattle.rectangle.specs.Cells.{cellIndex};
 ghost use Rattle.rectangle.specs.Rectangles.{OnScreen, cellAt};
 ghost use Rattle.charset.specs.Stored.{Agrees};
@@ -118,16 +118,16 @@ pub fn store_run(
 // Cells of a line, count of them from column on, as a part of the lent screen itself.
 pub fn part_of_line(screen: &[u8], column: usize, line: usize, count: usize) -> &[u8]
     requires { ⌜ (column + count ≤ 80) × (line ≤ 23) × (length (now screen) ≡ 1920) ⌝ }
-    ensures { λ r. ⌜ now r ≡ take count (drop (cellIndex column line) (now (screen .entry))) ⌝ }
+    ensures { λ r. ⌜ IsPart (screen .entry) r (stretch (cellIndex column line) count) ⌝ }
 {
     let start = cell_index(column, line);
     let end = start + count;
     &screen[start..end]
 }
 
-// No cell, as a part of the lent screen, whose length may be any.
+// No cell, as a part of the lent screen, whose length may be any: its start.
 pub fn no_cells(screen: &[u8]) -> &[u8]
-    ensures { λ r. ⌜ now r ≡ [] ⌝ }
+    ensures { λ r. ⌜ IsPart (screen .entry) r noStretch ⌝ }
 {
     &screen[0..0]
 }

@@ -9,6 +9,7 @@ use port::Port;
 use reply::Status;
 ghost use Prim.Native.Nat.{_<_, min};
 ghost use mathlib.Core.Path.{_≡_};
+ghost use Rattle.session.specs.Session as rules;
 
 // The status is that of the last call, and Done before the first. There are at most as many bells as bytes, so the sum never wraps.
 pub struct Session {
@@ -17,7 +18,9 @@ pub struct Session {
     pub status: Status,
 }
 
-pub fn fresh_session() -> Session {
+pub fn fresh_session() -> Session
+    ensures { λ r. ⌜ r ≡ rules.freshSession ⌝ }
+{
     Session {
         port: fresh_console(),
         bells: 0,
@@ -26,7 +29,9 @@ pub fn fresh_session() -> Session {
 }
 
 // The session after a call.
-fn after(at: Session, answer: Answer) -> Session {
+fn after(at: Session, answer: Answer) -> Session
+    ensures { λ r. ⌜ r ≡ rules.after at (answer .status) (answer .port) (answer .count) ⌝ }
+{
     let port = answer.port;
     let status = answer.status;
     Session {
@@ -37,7 +42,9 @@ fn after(at: Session, answer: Answer) -> Session {
 }
 
 // One write.
-pub fn feed(screen: &mut [u8], at: Session, bytes: &[u8]) -> Session {
+pub fn feed(screen: &mut [u8], at: Session, bytes: &[u8]) -> Session
+    ensures { λ r. ⌜ rules.Fed at (now (screen .entry)) (now (bytes .entry)) r (now (screen .exit)) ⌝ }
+{
     after(at, write(at.port, screen, bytes))
 }
 
@@ -50,6 +57,7 @@ fn min(a: usize, b: usize) -> usize
 // The bytes in writes of at most size bytes. No bytes are one empty write, which is judged as any other.
 pub fn feed_in_pieces(screen: &mut [u8], at: Session, bytes: &[u8], size: usize) -> Session
     requires { ⌜ 0 < size ⌝ }
+    ensures { λ r. ⌜ rules.Fed at (now (screen .entry)) (now (bytes .entry)) r (now (screen .exit)) ⌝ }
 {
     if bytes.len() == 0 {
         return feed(screen, at, bytes);
@@ -65,7 +73,9 @@ pub fn feed_in_pieces(screen: &mut [u8], at: Session, bytes: &[u8], size: usize)
 }
 
 // The bytes one after another by the one-byte call, which changes a port where it lies.
-pub fn feed_bytewise(screen: &mut [u8], at: Session, bytes: &[u8]) -> Session {
+pub fn feed_bytewise(screen: &mut [u8], at: Session, bytes: &[u8]) -> Session
+    ensures { λ r. ⌜ rules.FedBytewise at (now (screen .entry)) (now (bytes .entry)) r (now (screen .exit)) ⌝ }
+{
     let mut now = at;
     for i in 0..bytes.len() {
         now = after(now, put_byte_by_value(now.port, screen, bytes[i]));

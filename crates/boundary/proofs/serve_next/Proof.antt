@@ -1,6 +1,8 @@
 -- `boundary::serve_next` meets its contract: a call that was found lies in the script, and past its place. Assumes nothing.
+use mathlib.Core.Path.{sym, _∙_}
 use native.Mathlib.Omega.{arith}
 use lib.ListN.{length}
+use borrow.Author.Tests.{leb-true}
 use borrow.Author.Needs.{needs}
 use Rattle.boundary.proofs.Calls.{lies}
 use Rattle.boundary.proofs.serve_next.Statement.{statement}
@@ -27,7 +29,7 @@ serve-requires c κs =
     let found = c .before .before .before .before .before .before .before .parse-call in
     let call = c .before .before .before .before .before .parsed .given in
     let at = lies (length (args .script .now)) (args .at) (found .result) (call .0 .0) (call .1) (found .ensures) in
-    (at .0, c .before .before .before .has-room .ensures (c .before .before .if1 .taken))
+    (at .0, leb-true _ _ (sym (c .before .before .before .has-room .ensures) ∙ c .before .before .if1 .taken))
 
 same-length : tie.Need-same-length
 same-length c = search needs

@@ -22,8 +22,8 @@ height-of-requires c κs = search (acceptances, needs)
 cast-if1 : tie.Need-cast-if1
 cast-if1 c = search needs
 
-row-cells-requires : tie.Need-row-cells-requires
-row-cells-requires c κs = search (acceptances, needs)
+row-stretch-requires : tie.Need-row-stretch-requires
+row-stretch-requires c κs = search (acceptances, needs)
 
 returns : tie.Need-returns
 returns c = search row-good
@@ -47,7 +47,7 @@ row-view-spec =
     enum-told-2
     height-of-requires
     cast-if1
-    row-cells-requires
+    row-stretch-requires
     returns
     no-cells-requires-2
     returns-2

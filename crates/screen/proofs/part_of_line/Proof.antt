@@ -1,10 +1,11 @@
--- `screen::part_of_line` meets its contract: the part starts at the index of the first cell and has count of them. Assumes nothing.
+-- `screen::part_of_line` meets its contract: the part starts at the index of the first cell, in the lent screen itself, and has count of them. Assumes nothing.
 use Prim.Native.Nat.{ℕ, _+_, _-_}
-use mathlib.Core.Path.{_≡_}
+use mathlib.Core.Path.{_≡_, refl, ap}
 use mathlib.Core.List.{List}
 use native.Mathlib.Omega.{arith}
 use borrow.Author.Needs.{needs}
 use lib.ListN.{take, drop}
+use denote.Ref.{now}
 use Rattle.screen.proofs.part_of_line.Statement.{statement}
 use Rattle.screen.proofs.part_of_line.Tie as tie
 
@@ -27,7 +28,13 @@ part-result-end : tie.Need-part-result-end
 part-result-end c = search needs
 
 returns : tie.Need-returns
-returns c = search part-from
+returns c =
+    let first = c .before .cell-index .ensures in
+    record {
+      block = refl;
+      place = ap (λ (n : ℕ). n + c .before .before .before .args .screen .ptr .1) first;
+      bytes = part-from (now (c .before .before .before .args .screen)) (c .before .cell-index .result) _ (c .before .before .before .args .count) first;
+    }
 
 pub part-of-line-spec : {M : Type 1} → statement M
 part-of-line-spec =

@@ -1,13 +1,13 @@
 -- `session::feed_in_pieces` meets its contract: each turn hands over at least one byte, and the parts lie in the lent bytes. Assumes nothing.
-use Prim.Native.Nat.{_≤_, _-_}
-use mathlib.Core.Path.{_≡_}
+use Prim.Native.Nat.{_-_}
 use lib.ListN.{length}
 use borrow.Author.Needs.{needs}
+use Rattle.session.proofs.Feeding.{Feeding, feeding-starts, piece-more, pieces-end}
 use Rattle.session.proofs.feed_in_pieces.Statement.{statement}
 use Rattle.session.proofs.feed_in_pieces.Tie as tie
 
 abbrev Inv-loop : tie.InvT-loop
-Inv-loop screen₀ bytes size now₀ start₀ screen now start = (start ≤ length bytes) × (length screen ≡ length screen₀)
+Inv-loop screen₀ bytes size now₀ start₀ screen now start = Feeding now₀ screen₀ bytes start now screen
 
 abbrev μ-loop : tie.MeasureT-loop
 μ-loop screen₀ bytes size now₀ start₀ screen now start = length bytes - start
@@ -22,7 +22,7 @@ returns : tie.Need-returns Inv-loop μ-loop
 returns c = search needs
 
 loop-holds : tie.Need-loop-holds Inv-loop μ-loop
-loop-holds c = search needs
+loop-holds c = search feeding-starts
 
 sub-min : tie.Need-sub-min Inv-loop μ-loop
 sub-min c = search needs
@@ -49,13 +49,13 @@ loop-less : tie.Need-loop-less Inv-loop μ-loop
 loop-less c = search needs
 
 loop-again : tie.Need-loop-again Inv-loop μ-loop
-loop-again c = search needs
+loop-again c = search piece-more
 
 same-length-2 : tie.Need-same-length-2 Inv-loop μ-loop
 same-length-2 c = search needs
 
 returns-2 : tie.Need-returns-2 Inv-loop μ-loop
-returns-2 c = search needs
+returns-2 c = search pieces-end
 
 pub feed-in-pieces-spec : {M : Type 1} → statement M
 feed-in-pieces-spec =

@@ -1,20 +1,36 @@
 -- `boundary::room::has_room` meets its contract: what is left of the room after each part is enough for the next. Assumes nothing.
 use native.Mathlib.Omega.{arith}
-use Prim.Native.Nat.{_-_}
-use mathlib.Core.Path.{refl}
-use borrow.Author.Tests.{leb-true}
-use Rattle.laws.proofs.Tests.{not-both}
+use Prim.Native.Nat.{ℕ, _+_, _-_, _≤_, _<_}
+use mathlib.Core.Path.{_≡_, sym, _∙_}
+use mathlib.Core.Bool.{false}
+use mathlib.Core.Logic.{⊎-elim}
+use lib.Dec.{leb}
+use borrow.Author.Tests.{le-leb, lt-leb}
+use Rattle.laws.proofs.Tests.{below?}
 use Rattle.boundary.proofs.room.has_room.Statement.{statement}
 use Rattle.boundary.proofs.room.has_room.Tie as tie
 
+fits : (room lent cells : ℕ) → 5 ≤ room → lent ≤ room - 5 → leb cells (room - 5 - lent) ≡ leb (5 + lent + cells) room
+fits room lent cells head block =
+    ⊎-elim (λ short. lt-leb cells (room - 5 - lent) short ∙ sym (lt-leb (5 + lent + cells) room (omega arith)))
+    (λ enough. le-leb cells (room - 5 - lent) enough ∙ sym (le-leb (5 + lent + cells) room (omega arith)))
+    (below? (room - 5 - lent) cells)
+
+-- no room for the head, or for the lent block after it
+no-head : (room lent cells : ℕ) → room < 5 → false ≡ leb (5 + lent + cells) room
+no-head room lent cells short = sym (lt-leb (5 + lent + cells) room (omega arith))
+
+no-block : (room lent cells : ℕ) → 5 ≤ room → room - 5 < lent → false ≡ leb (5 + lent + cells) room
+no-block room lent cells head short = sym (lt-leb (5 + lent + cells) room (omega arith))
+
 returns : tie.Need-returns
-returns c = λ e. absurd (not-both e refl)
+returns c = search no-head
 
 returns-2 : tie.Need-returns-2
-returns-2 c = λ e. absurd (not-both e refl)
+returns-2 c = search no-block
 
 returns-3 : tie.Need-returns-3
-returns-3 c = λ e. omega (arith, leb-true (c .before .before .args .cells) (c .before .before .args .room - 5 - c .before .before .args .lent) e)
+returns-3 c = search fits
 
 pub has-room-spec : {M : Type 1} → statement M
 has-room-spec = tie.close (tie.spec returns returns-2 returns-3)

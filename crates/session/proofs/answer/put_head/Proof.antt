@@ -1,7 +1,8 @@
--- `session::answer::put_head` meets its contract: stores leave the length as it is. Assumes nothing.
+-- `session::answer::put_head` meets its contract: five stores, one after another. Assumes nothing.
 use native.Mathlib.Omega.{arith}
 use lib.ListN.{length-set}
 use borrow.Author.Needs.{needs}
+use Rattle.session.proofs.Answers.{five-stored}
 use Rattle.session.proofs.answer.put_head.Statement.{statement}
 use Rattle.session.proofs.answer.put_head.Tie as tie
 
@@ -36,7 +37,7 @@ same-length : tie.Need-same-length
 same-length c = search needs
 
 returns : tie.Need-returns
-returns c = search needs
+returns c = search (five-stored, needs)
 
 pub put-head-spec : {M : Type 1} → statement M
 put-head-spec =

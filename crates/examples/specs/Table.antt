@@ -1,6 +1,6 @@
--- Paper 01, 'Examples at the edges': P1 to P12, and P8 and P10 once more where they show more. Assumes nothing.
+-- Paper 01, 'Examples at the edges': P1 to P12; P7, P8 and P10 once more where they show more, and the scene of P11 and P12. Assumes nothing.
 use Prim.Native.Nat.{ℕ}
-use mathlib.Core.List.{List, [], _∷_}
+use mathlib.Core.List.{List, [], _∷_, _++_}
 use Rattle.rectangle.specs.declared.Rect.{Rect}
 use Rattle.rectangle.specs.Rectangles.{rectOf, wholeScreen}
 use Rattle.examples.specs.Example.{Cell, Example}
@@ -48,6 +48,10 @@ P6 = example [] (0x02 ∷ 0x2a ∷ 0x25 ∷ 0x2c ∷ 0x27 ∷ []) [] smallPort 1
 abbrev pub P7 : Example
 P7 = example [] (0x02 ∷ 0x20 ∷ 0x20 ∷ 0x20 ∷ 0x21 ∷ []) [] wholeScreen 0 0
 
+-- P7 after P6, with the cursor moved: the viewport and the cursor stay
+abbrev pub P7-after-P6 : Example
+P7-after-P6 = example (P6 .bytes ++ (0x1c ∷ [])) (P7 .bytes) [] smallPort 11 5
+
 abbrev pub P8 : Example
 P8 = example [] (0x02 ∷ 0x20 ∷ 0x20 ∷ 0x7f ∷ 0x7f ∷ []) [] wholeScreen 0 0
 
@@ -66,6 +70,10 @@ P10 = example [] (0x08 ∷ []) [] wholeScreen 79 0
 abbrev pub P10-over-text : Example
 P10-over-text = example (0x41 ∷ 0x19 ∷ []) (0x08 ∷ []) (cell 0 0 0xa0 ∷ cell 0 1 0x81 ∷ []) wholeScreen 79 0
 
+-- the scene that P11 and P12 start from
+abbrev pub P11-scene : Example
+P11-scene = example [] smallText (smallCells 0x81 0x82 0x83) smallPort 10 5
+
 abbrev pub P11 : Example
 P11 = example smallText (0x05 ∷ 0xff ∷ []) (smallCells 0x82 0x83 0xa0) smallPort 10 5
 
@@ -73,4 +81,4 @@ abbrev pub P12 : Example
 P12 = example smallText (0x05 ∷ 0x80 ∷ []) (smallCells 0xa0 0xa0 0xa0) smallPort 10 5
 
 abbrev pub examples : List Example
-examples = P1 ∷ P2 ∷ P3 ∷ P4 ∷ P5 ∷ P6 ∷ P7 ∷ P8 ∷ P8-after-P6 ∷ P9 ∷ P10 ∷ P10-over-text ∷ P11 ∷ P12 ∷ []
+examples = P1 ∷ P2 ∷ P3 ∷ P4 ∷ P5 ∷ P6 ∷ P7 ∷ P7-after-P6 ∷ P8 ∷ P8-after-P6 ∷ P9 ∷ P10 ∷ P10-over-text ∷ P11-scene ∷ P11 ∷ P12 ∷ []

@@ -17,9 +17,10 @@ use Rattle.slots.specs.declared.Multiplexer.{Multiplexer}
 use Rattle.slots.specs.State.{slotAt, pane, Open}
 use Rattle.slots.specs.Valid.{ValidMultiplexer}
 use Rattle.slots.proofs.Slots.{slot-set}
-use Rattle.isolation.specs.Isolation.{Call, callOnPort, serve, answerFrom, serveAll, standalone, callsOf, answersTo}
-use Rattle.isolation.proofs.Consoles.{keeps-call, alike-call}
-use Rattle.isolation.proofs.Serving.{goes-to, frame}
+use Rattle.client_calls.specs.Serve.{Call, callOnPort, serve}
+use Rattle.isolation.specs.Isolation.{answerFrom, serveAll, standalone, callsOf, answersTo}
+use Rattle.client_calls.proofs.Consoles.{keeps-call, alike-call}
+use Rattle.client_calls.proofs.Serving.{goes-to, frame}
 
 -- ---- one open slot against its standalone console
 module _ (i n : ℕ) (small : i < 4) (is-open : n ≡ 0 → ⊥) where

@@ -33,10 +33,11 @@ use Rattle.slots.proofs.Validity.{decides-multiplexer}
 use Rattle.slots.proofs.Slots.{decides-client}
 use Rattle.multiplexer.specs.Calls.{MultiplexerReply, openCall}
 use Rattle.multiplexer.proofs.Claims.{Claims, decides-pane-shared}
-use Rattle.isolation.specs.Isolation.{Kind, Call, callBy, Answer, serve, serveAll, callsOf, standalone, answersTo, Isolated, SameEnd}
-use Rattle.isolation.specs.Isolation.Kind.{Write, Return, Restore}
-use Rattle.isolation.proofs.Opened.{opens, open-valid}
-use Rattle.isolation.proofs.Closed.{fresh-multiplexer}
+use Rattle.client_calls.specs.Serve.{Kind, Call, callBy, serve}
+use Rattle.isolation.specs.Isolation.{Answer, serveAll, callsOf, standalone, answersTo, Isolated, SameEnd}
+use Rattle.client_calls.specs.Serve.Kind.{Write, Return, Restore}
+use Rattle.client_calls.proofs.Opened.{opens, open-valid}
+use Rattle.client_calls.proofs.Closed.{fresh-multiplexer}
 use Rattle.isolation.proofs.Isolation.{isolation}
 
 unfoldable pub blankScreen : List ℕ

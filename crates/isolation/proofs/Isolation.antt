@@ -19,9 +19,10 @@ use Rattle.slots.specs.Valid.{validMultiplexer, ValidMultiplexer}
 use Rattle.slots.proofs.Validity.{decides-multiplexer}
 use Rattle.slots.proofs.Slots.{client?}
 use Rattle.multiplexer.specs.Calls.{MultiplexerReply}
-use Rattle.isolation.specs.Isolation.{Call, Server, serve, ServesCalls, answerFrom, serveAll, callsOf, answersTo, notOpen, Isolated, Isolation}
+use Rattle.client_calls.specs.Serve.{Call, Server, serve, ServesCalls}
+use Rattle.isolation.specs.Isolation.{answerFrom, serveAll, callsOf, answersTo, notOpen, Isolated, Isolation}
 use Rattle.isolation.proofs.Following.{Follows, follows}
-use Rattle.isolation.proofs.Serving.{SameLabels, turned-away, frame}
+use Rattle.client_calls.proofs.Serving.{SameLabels, turned-away, frame}
 
 -- ---- what no call changes
 module _ (a b : Multiplexer) (same : SameLabels a b) where

@@ -20,9 +20,10 @@ use Rattle.slots.specs.declared.Slot.{Slot}
 use Rattle.slots.specs.State.{freeSlot, slotAt, slotOf}
 use Rattle.slots.proofs.Validity.{decides-multiplexer}
 use Rattle.multiplexer.specs.Calls.{MultiplexerReply, relayed}
-use Rattle.isolation.specs.Isolation.{Kind, Call, callBy, lentBlock, callOnPort, Answer, Server, serve, ServesCalls, serveAll, standalone, callsOf, answersTo, Isolation}
-use Rattle.isolation.specs.Isolation.Kind.{Write, Return, Restore}
-use Rattle.isolation.proofs.Serving.{goes-to}
+use Rattle.client_calls.specs.Serve.{Kind, Call, callBy, lentBlock, callOnPort, Server, serve, ServesCalls}
+use Rattle.isolation.specs.Isolation.{Answer, serveAll, standalone, callsOf, answersTo, Isolation}
+use Rattle.client_calls.specs.Serve.Kind.{Write, Return, Restore}
+use Rattle.client_calls.proofs.Serving.{goes-to}
 use Rattle.isolation.proofs.Isolation.{serves-calls}
 use Rattle.isolation.proofs.Instance.{blankScreen, blank-length, pair, pair-valid, left-open, right-open, none-0}
 

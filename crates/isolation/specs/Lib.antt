@@ -1,3 +1,2 @@
--- `Isolation`: demand 3, about the calls that the multiplexer's contracts cite. `Laws`: the other laws of those calls.
+-- Demand 3, about the calls that the multiplexer's contracts cite.
 pub mod Isolation
-pub mod Laws

@@ -20,9 +20,9 @@ use Rattle.slots.specs.Valid.{ValidMultiplexer}
 use Rattle.multiplexer.specs.Located.{clientSlot}
 use Rattle.multiplexer.specs.Calls.{relayed, closeCall, closedAt}
 use Rattle.multiplexer.proofs.Replying.{located-off, at-refusal, by-slot}
-use Rattle.isolation.specs.Isolation.{Kind, Call, lentBlock, takesScreen, callOnPort, serve}
-use Rattle.isolation.specs.Isolation.Kind.{Write, Return, Restore}
-use Rattle.isolation.proofs.Serving.{frame}
+use Rattle.client_calls.specs.Serve.{Kind, Call, lentBlock, takesScreen, callOnPort, serve}
+use Rattle.client_calls.specs.Serve.Kind.{Write, Return, Restore}
+use Rattle.client_calls.proofs.Serving.{frame}
 
 -- a slot's own port put back
 pub port-again : (m : Multiplexer) (i : ℕ) → withPort m i (slotAt m i .port) ≡ m

@@ -22,10 +22,10 @@ use Rattle.multiplexer.specs.Located.{clientSlot}
 use Rattle.multiplexer.specs.Calls.{MultiplexerReply, relayed, writeCall}
 use Rattle.multiplexer.proofs.Clients.{goes-nowhere, invalid-refused}
 use Rattle.multiplexer.proofs.Replying.{located-on, located-off, at-refusal}
-use Rattle.isolation.specs.Isolation.{serve}
-use Rattle.isolation.specs.Isolation.Kind.{Write}
-use Rattle.isolation.specs.Laws.{GoesTo}
-use Rattle.isolation.proofs.Relaying.{one-call, parse-call}
+use Rattle.client_calls.specs.Serve.{serve}
+use Rattle.client_calls.specs.Serve.Kind.{Write}
+use Rattle.client_calls.specs.Laws.{GoesTo}
+use Rattle.client_calls.proofs.Relaying.{one-call, next-call}
 
 -- a write is refused whatever its bytes, or goes to an open slot
 abbrev Refused : Multiplexer → List ℕ → ℕ → Type 0
@@ -61,7 +61,7 @@ write-cut m s n a b =
     ⊎-elim
     (λ (k : Refused m s n). simp (k .1) (record { first-status = refl; second-status = refl; state = refl; screen = refl; count = refl }))
     (λ (k : (i : ℕ) × GoesTo m s n i).
-    rw (parse-call (k .1) (Write a) (Write b), one-call (k .1) (Write a), one-call (k .1) (Write (a ++ b)))
+    rw (next-call (k .1) (Write a) (Write b), one-call (k .1) (Write a), one-call (k .1) (Write (a ++ b)))
     (relayed-cut m (k .0) (written-cut (slotAt m (k .0) .port) s a b)))
     (refused-or-goes m s n)
 

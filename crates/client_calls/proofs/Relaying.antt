@@ -9,9 +9,9 @@ use Rattle.slots.specs.declared.Multiplexer.{Multiplexer}
 use Rattle.slots.specs.State.{slotAt, withPort}
 use Rattle.slots.proofs.Slots.{slot-set}
 use Rattle.multiplexer.specs.Calls.{MultiplexerReply, relayed}
-use Rattle.isolation.specs.Isolation.{Kind, callBy, callOnPort, serve}
-use Rattle.isolation.specs.Laws.{GoesTo}
-use Rattle.isolation.proofs.Serving.{goes-to, frame}
+use Rattle.client_calls.specs.Serve.{Kind, callBy, callOnPort, serve}
+use Rattle.client_calls.specs.Laws.{GoesTo}
+use Rattle.client_calls.proofs.Serving.{goes-to, frame}
 
 module _ {m : Multiplexer} {s : List ℕ} {n i : ℕ} (g : GoesTo m s n i) where
   pub one-call : (kind : Kind) → serve m s (callBy n kind) ≡ relayed m i (callOnPort kind (slotAt m i .port) s)
@@ -27,10 +27,10 @@ module _ {m : Multiplexer} {s : List ℕ} {n i : ℕ} (g : GoesTo m s n i) where
       let same = f .labels .client i in
       record { valid = f .valid; len = f .len; is-open = (g .is-open .0, λ e. g .is-open .1 (sym same ∙ e)); client = same ∙ g .client }
 
-pub parse-call : {m : Multiplexer} {s : List ℕ} {n i : ℕ} (g : GoesTo m s n i) (first second : Kind)
+pub next-call : {m : Multiplexer} {s : List ℕ} {n i : ℕ} (g : GoesTo m s n i) (first second : Kind)
     → serve (serve m s (callBy n first) .state) (serve m s (callBy n first) .screen) (callBy n second)
     ≡ relayed m i (callOnPort second (callOnPort first (slotAt m i .port) s .state) (callOnPort first (slotAt m i .port) s .screen))
-parse-call {m} {s} {n} {i} g first second =
+next-call {m} {s} {n} {i} g first second =
     let x : PortReply = callOnPort first (slotAt m i .port) s in
     one-call (still-goes g first) second
     ∙ ap (λ (r : MultiplexerReply). relayed (r .state) i (callOnPort second (slotAt (r .state) i .port) (r .screen))) (one-call g first)

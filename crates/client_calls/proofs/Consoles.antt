@@ -19,8 +19,8 @@ use Rattle.port.specs.declared.Port.{Port}
 use Rattle.port.specs.Valid.{ValidPort}
 use Rattle.port.proofs.Streams.{keeps-stream, stream-local}
 use Rattle.calls.specs.Calls.{PortReply, written, blockReturned, blockRestored}
-use Rattle.isolation.specs.Isolation.{Kind, callOnPort}
-use Rattle.isolation.specs.Isolation.Kind.{Write, Return, Restore}
+use Rattle.client_calls.specs.Serve.{Kind, callOnPort}
+use Rattle.client_calls.specs.Serve.Kind.{Write, Return, Restore}
 
 pub record Keeps (p : Port) (s : List ℕ) (r : PortReply) : Type 0 where
   pub valid : ValidPort (r .state)

@@ -19,8 +19,8 @@ use Rattle.multiplexer.specs.Located.{clientSlot}
 use Rattle.multiplexer.specs.Calls.{MultiplexerReply, onSlot, relayed}
 use Rattle.multiplexer.proofs.Clients.{goes-to-slot, goes-nowhere}
 use Rattle.multiplexer.proofs.Replying.{located-on, at-slot, at-refusal}
-use Rattle.isolation.specs.Isolation.{Call, lentBlock, takesScreen, callOnPort, serve}
-use Rattle.isolation.proofs.Consoles.{keeps-call}
+use Rattle.client_calls.specs.Serve.{Call, lentBlock, takesScreen, callOnPort, serve}
+use Rattle.client_calls.proofs.Consoles.{keeps-call}
 
 -- the same clients and panes
 pub record SameLabels (a b : Multiplexer) : Type 0 where

@@ -9,7 +9,7 @@ use Rattle.laws.proofs.Tests.{tested, not-both, by-test, Decides}
 use Rattle.reply.specs.declared.Status.{Status}
 use Rattle.reply.specs.declared.Status.the-variants.{Done}
 use Rattle.reply.specs.Numbers.{statusNumber}
-use Rattle.isolation.specs.Laws.{Each, Rising, Answers}
+use Rattle.client_calls.specs.Laws.{Each, Rising, Answers}
 
 -- the status of the first rule that applies, or Done
 pub data First (applies : Status → Type 0) (given : Status) : List Status → Type 0 where

@@ -22,9 +22,9 @@ use Rattle.multiplexer.specs.Located.{multiplexerVerdict, claimVerdict, freeSlo
 use Rattle.multiplexer.specs.Calls.{MultiplexerReply, onSlot, onClient, writeCall, returnCall, restoreCall, openedAt, openCall, closedAt, closeCall}
 use Rattle.multiplexer.proofs.Claims.{decides-pane-shared}
 use Rattle.multiplexer.proofs.Replying.{slotStatus, by-screen}
-use Rattle.isolation.specs.Laws.{viewport, Fits, Applies, Exactly, Statuses, ValidStatuses, GoesTo, SlotStatuses}
-use Rattle.isolation.proofs.Rules.{First, spared, refused-if, refused-unless, refused-not, answers-first}
-use Rattle.isolation.proofs.Rules.First.{none, here, later}
+use Rattle.client_calls.specs.Laws.{viewport, Fits, Applies, Exactly, Statuses, ValidStatuses, GoesTo, SlotStatuses}
+use Rattle.client_calls.proofs.Rules.{First, spared, refused-if, refused-unless, refused-not, answers-first}
+use Rattle.client_calls.proofs.Rules.First.{none, here, later}
 
 decides-fits : (r : Rect) (block : List ℕ) → Decides (blockFits r block) (Fits r block)
 unfolding blockFits

@@ -13,11 +13,11 @@ use Rattle.calls.proofs.Blocks.{handedOut, handed-out, putBack, put-back}
 use Rattle.slots.specs.declared.Multiplexer.{Multiplexer}
 use Rattle.slots.specs.State.{slotAt}
 use Rattle.multiplexer.specs.Calls.{MultiplexerReply, relayed, returnCall, restoreCall}
-use Rattle.isolation.specs.Isolation.{serve}
-use Rattle.isolation.specs.Isolation.Kind.{Return, Restore}
-use Rattle.isolation.specs.Laws.{viewport, GoesTo}
-use Rattle.isolation.proofs.Refusals.{port-again}
-use Rattle.isolation.proofs.Relaying.{one-call}
+use Rattle.client_calls.specs.Serve.{serve}
+use Rattle.client_calls.specs.Serve.Kind.{Return, Restore}
+use Rattle.client_calls.specs.Laws.{viewport, GoesTo}
+use Rattle.client_calls.proofs.Refusals.{port-again}
+use Rattle.client_calls.proofs.Relaying.{one-call}
 
 -- the restore starts from the multiplexer, the screen and the front of the block that the return left
 abbrev pub restoreAfter : ℕ → MultiplexerReply → MultiplexerReply

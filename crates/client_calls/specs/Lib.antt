@@ -1,0 +1,3 @@
+-- `Serve`: one call by client, whatever its kind. `Laws`: when each status is given.
+pub mod Serve
+pub mod Laws

@@ -19,8 +19,13 @@ use Rattle.multiplexer.specs.Located.{clientSlot}
 use Rattle.multiplexer.specs.Calls.{MultiplexerReply, onSlot, relayed}
 use Rattle.multiplexer.proofs.Clients.{goes-to-slot, goes-nowhere}
 use Rattle.multiplexer.proofs.Replying.{located-on, at-slot, at-refusal}
-use Rattle.client_calls.specs.Serve.{Call, lentBlock, takesScreen, callOnPort, serve}
+use Rattle.client_calls.specs.Serve.{Call, lentBlock, takesScreen, callOnPort, serve, ServesCalls}
 use Rattle.client_calls.proofs.Consoles.{keeps-call}
+
+-- the calls are those that the multiplexer's contracts cite
+pub serves-calls : ServesCalls serve
+unfolding serve
+serves-calls = record { write = λ m s n bytes. refl; return = λ m s n block. refl; restore = λ m s n block. refl }
 
 -- the same clients and panes
 pub record SameLabels (a b : Multiplexer) : Type 0 where

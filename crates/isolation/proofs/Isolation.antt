@@ -19,7 +19,7 @@ use Rattle.slots.specs.Valid.{validMultiplexer, ValidMultiplexer}
 use Rattle.slots.proofs.Validity.{decides-multiplexer}
 use Rattle.slots.proofs.Slots.{client?}
 use Rattle.multiplexer.specs.Calls.{MultiplexerReply}
-use Rattle.client_calls.specs.Serve.{Call, Server, serve, ServesCalls}
+use Rattle.client_calls.specs.Serve.{Call, Server, serve}
 use Rattle.isolation.specs.Isolation.{answerFrom, serveAll, callsOf, answersTo, notOpen, Isolated, Isolation}
 use Rattle.isolation.proofs.Following.{Follows, follows}
 use Rattle.client_calls.proofs.Serving.{SameLabels, turned-away, frame}
@@ -149,11 +149,6 @@ module _ (f g : Server) (m : Multiplexer) (s : List ℕ) (cs ds : List Call) (a 
       (a .answers (p .0) (p .1) ∙ rw (e (slotAt m (p .0) .client)) (sym (b .answers (p .0) (p .1)))))
       (λ closed. a .answers-8 n closed ∙ rw (e n) (sym (b .answers-8 n closed)))
       (client? m n)
-
--- its calls are those that the multiplexer's contracts cite
-pub serves-calls : ServesCalls serve
-unfolding serve
-serves-calls = record { write = λ m s n bytes. refl; return = λ m s n block. refl; restore = λ m s n block. refl }
 
 -- demand 3
 pub isolation : Isolation serve

@@ -1,4 +1,4 @@
--- `Following`: one slot against its standalone console. `Isolation`: the whole statement, that its calls are those of the contracts, and that no other server meets it.
+-- `Following`: one slot against its standalone console. `Isolation`: the whole statement, and that no other server meets it.
 -- `Instance`: demand 3 is not empty. `Refuted`: wrong servers that it excludes.
 pub mod Following
 pub mod Isolation

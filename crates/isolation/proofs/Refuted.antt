@@ -23,8 +23,7 @@ use Rattle.multiplexer.specs.Calls.{MultiplexerReply, relayed}
 use Rattle.client_calls.specs.Serve.{Kind, Call, callBy, lentBlock, callOnPort, Server, serve, ServesCalls}
 use Rattle.isolation.specs.Isolation.{Answer, serveAll, standalone, callsOf, answersTo, Isolation}
 use Rattle.client_calls.specs.Serve.Kind.{Write, Return, Restore}
-use Rattle.client_calls.proofs.Serving.{goes-to}
-use Rattle.isolation.proofs.Isolation.{serves-calls}
+use Rattle.client_calls.proofs.Serving.{serves-calls, goes-to}
 use Rattle.isolation.proofs.Instance.{blankScreen, blank-length, pair, pair-valid, left-open, right-open, none-0}
 
 -- the call, on slot i whatever its client

@@ -1,4 +1,4 @@
--- Paper 01, 'How tight the promises are': the wrong consoles that it names, each as a kind of write. What a kind says, it says of as little as will do. Assumes nothing.
+-- Paper 01, 'How tight the promises are': the wrong consoles that it names, each as a kind of write. Each says as little of the write as makes it wrong. Assumes nothing.
 use Prim.Native.Nat.{ℕ, _<_}
 use mathlib.Core.Path.{_≡_}
 use mathlib.Core.List.{List, [], _∷_}
@@ -18,23 +18,23 @@ Meets f = (p : Port) (s bytes : List ℕ) → Replies (writeCall p s bytes) (f p
 abbrev pub onFresh : PortCall → List ℕ → PortReply
 onFresh f bytes = f freshConsole blankScreen bytes
 
--- 'a console that refuses everything': on a fresh console
+-- 'a console that refuses everything': every stream on a fresh console
 abbrev pub RefusesEverything : PortCall → Type 0
 RefusesEverything f = (bytes : List ℕ) → onFresh f bytes .status ≡ Done → ⊥
 
--- 'one that answers a blank screen always': on a fresh console
+-- 'one that answers a blank screen always': after every stream on a fresh console
 abbrev pub AnswersBlank : PortCall → Type 0
 AnswersBlank f = (bytes : List ℕ) → onFresh f bytes .screen ≡ blankScreen
 
--- 'or changes nothing': on a fresh console not even the port
+-- 'or changes nothing': after every stream a fresh console's port is as it was
 abbrev pub DoesNothing : PortCall → Type 0
 DoesNothing f = (bytes : List ℕ) → onFresh f bytes .state ≡ freshConsole
 
--- 'one that obeys the first byte and ignores the others', whatever it makes of the first: the screen of a fresh console is the one that the first byte leaves
+-- 'one that obeys the first byte and ignores the others': a fresh console's screen is as after the first byte, whatever that one does
 abbrev pub ObeysTheFirst : PortCall → Type 0
 ObeysTheFirst f = (b : ℕ) (bs : List ℕ) → onFresh f (b ∷ bs) .screen ≡ onFresh f (b ∷ []) .screen
 
--- 'one that invents bells (the count is the number of $07 taken as commands)': once, with some port, screen and stream, it counts more
+-- 'one that invents bells (the count is the number of $07 taken as commands)': it counts more, if only for one port, screen and stream
 pub record InventsBells (f : PortCall) : Type 0 where
   pub port : Port
   pub cells : List ℕ

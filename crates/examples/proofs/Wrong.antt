@@ -6,10 +6,9 @@ use mathlib.Core.List.{List, [], _∷_}
 use native.Mathlib.Omega.{arith}
 use lib.ListN.{length, getD}
 use Rattle.laws.specs.Tabulate.{length-tabulate, getD-tabulate}
-use Rattle.laws.proofs.Tests.{either}
+use Rattle.laws.proofs.Tests.{decides-eq, either}
 use Rattle.rectangle.specs.Edit.{draw}
 use Rattle.rectangle.specs.Rectangles.{wholeScreen}
-use Rattle.screen.proofs.Sizes.{decides-screen}
 use Rattle.port.specs.declared.Port.{Port}
 use Rattle.port.specs.State.{zeroView}
 use Rattle.port.specs.Valid.{ValidPort}
@@ -97,4 +96,4 @@ module _ (f : PortCall) (meets : Meets f) where
       (λ bad. let is = ap (λ (r : PortReply). r .result) (refused-port written p s bytes len bad) in omega arith)
       (either (decides-valid p)))
       (λ no-screen. let is = ap (λ (r : PortReply). r .result) (refused-length written p s bytes no-screen) in omega arith)
-      (either (decides-screen (length s)))
+      (either (decides-eq (length s) 1920))

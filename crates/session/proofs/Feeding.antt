@@ -43,9 +43,9 @@ module _ (at mid next : Session) (s a s₁ b t : List ℕ) where
       let w : PortReply = writeCall (mid .port) s₁ b in
       let is : w ≡ two = rw (ap (λ (x : Session). x .port) (f .session), f .cells) in
       let bells : (mid .bells + w .result) % 2 ^ 64 ≡ (at .bells + both .result) % 2 ^ 64 =
-          ap (λ (n : ℕ). (n + w .result) % 2 ^ 64) (ap (λ (x : Session). x .bells) (f .session)) ∙ ap (λ (r : PortReply). ((at .bells + one .result) % 2 ^ 64 + r .result) % 2 ^ 64) is
-          ∙ mod-add-mod (at .bells + one .result) (2 ^ 64) (two .result)
-          ∙ ap (λ (n : ℕ). n % 2 ^ 64) (add-assoc (at .bells) (one .result) (two .result) ∙ ap (λ (n : ℕ). at .bells + n) (cut .count)) in
+      ap (λ (n : ℕ). (n + w .result) % 2 ^ 64) (ap (λ (x : Session). x .bells) (f .session)) ∙ ap (λ (r : PortReply). ((at .bells + one .result) % 2 ^ 64 + r .result) % 2 ^ 64) is
+      ∙ mod-add-mod (at .bells + one .result) (2 ^ 64) (two .result)
+      ∙ ap (λ (n : ℕ). n % 2 ^ 64) (add-assoc (at .bells) (one .result) (two .result) ∙ ap (λ (n : ℕ). at .bells + n) (cut .count)) in
       record {
         session = g .session ∙ same-after (ap (λ (r : PortReply). r .status) is ∙ cut .second-status) (ap (λ (r : PortReply). r .state) is ∙ cut .state) bells;
         cells = g .cells ∙ ap (λ (r : PortReply). r .screen) is ∙ cut .screen;

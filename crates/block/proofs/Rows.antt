@@ -31,9 +31,9 @@ unfolding rowStart
 row-inside r row c fits h k = search needs
 
 -- a row holds the width's number of cells, and these
-pub row-not-empty : (r : Rect) (row : ℕ) (s : List ℕ) → OnScreen r → row < heightOf r → length s ≡ 1920 → length (rowCells r row s) ≡ widthOf r
+pub row-length : (r : Rect) (row : ℕ) (s : List ℕ) → OnScreen r → row < heightOf r → length s ≡ 1920 → length (rowCells r row s) ≡ widthOf r
 unfolding rowCells
-row-not-empty r row s fits h l = simp (length-take, length-drop) (omega (arith, row-fits r row fits h))
+row-length r row s fits h l = simp (length-take, length-drop) (omega (arith, row-fits r row fits h))
 
 pub row-at : (r : Rect) (row : ℕ) (s : List ℕ) (c : ℕ) → c < widthOf r → getD (rowCells r row s) c 0 ≡ getD s (rowStart r row + c) 0
 unfolding rowCells
@@ -44,7 +44,7 @@ module _ (r : Rect) (s : List ℕ) (fits : OnScreen r) (l : length s ≡ 1920) w
   length-rows : (row count : ℕ) → row + count ≤ heightOf r → length (rowsFrom r row count s) ≡ count * widthOf r
   unfolding rowsFrom
   length-rows row zero h = omega arith
-  length-rows row (suc count) h = simp length-append (omega (arith, row-not-empty r row s fits (omega arith) l, length-rows (suc row) count (omega arith)))
+  length-rows row (suc count) h = simp length-append (omega (arith, row-length r row s fits (omega arith) l, length-rows (suc row) count (omega arith)))
 
   rows-at : (row count k c : ℕ) → row + count ≤ heightOf r → k < count → c < widthOf r
       → getD (rowsFrom r row count s) (k * widthOf r + c) 0 ≡ getD s (rowStart r (row + k) + c) 0
@@ -54,9 +54,9 @@ module _ (r : Rect) (s : List ℕ) (fits : OnScreen r) (l : length s ≡ 1920) w
       let place : zero * widthOf r + c ≡ c = omega arith in
       let same : row + zero ≡ row = omega arith in
       rw (place, same)
-      (List·getD-append (rowCells r row s) _ 0 c (omega (arith, row-not-empty r row s fits (omega arith) l)) ∙ row-at r row s c small)
+      (List·getD-append (rowCells r row s) _ 0 c (omega (arith, row-length r row s fits (omega arith) l)) ∙ row-at r row s c small)
   rows-at row (suc count) (suc k) c h below small =
-      let place : suc k * widthOf r + c ≡ length (rowCells r row s) + (k * widthOf r + c) = omega (arith, row-not-empty r row s fits (omega arith) l) in
+      let place : suc k * widthOf r + c ≡ length (rowCells r row s) + (k * widthOf r + c) = omega (arith, row-length r row s fits (omega arith) l) in
       rw place (getD-append-add (rowCells r row s) _ _ 0) ∙ rows-at (suc row) count k c (omega arith) (omega arith) small ∙ ap (λ x. getD s (rowStart r x + c) 0) (omega arith)
 
 -- a block is as long as its rectangle says, and fits it
@@ -99,8 +99,8 @@ block-at r s fits l i h =
 row-agrees : (r : Rect) (s t : List ℕ) → OnScreen r → length s ≡ 1920 → length t ≡ 1920 → Agree r s t
     → (row : ℕ) → row < heightOf r → rowCells r row s ≡ rowCells r row t
 row-agrees r s t fits l l′ agree row h =
-    ext-getD 0 _ _ (row-not-empty r row s fits h l ∙ sym (row-not-empty r row t fits h l′))
-    (λ c k. let small : c < widthOf r = omega (arith, row-not-empty r row s fits h l) in
+    ext-getD 0 _ _ (row-length r row s fits h l ∙ sym (row-length r row t fits h l′))
+    (λ c k. let small : c < widthOf r = omega (arith, row-length r row s fits h l) in
     row-at r row s c small ∙ agree _ (row-inside r row c fits h small) ∙ sym (row-at r row t c small))
 
 pub rows-agree : (r : Rect) (s t : List ℕ) → OnScreen r → length s ≡ 1920 → length t ≡ 1920 → Agree r s t → blockOf r s ≡ blockOf r t

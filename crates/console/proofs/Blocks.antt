@@ -6,10 +6,10 @@ use native.Mathlib.Omega.{arith}
 use lib.ListN.{length, take}
 use borrow.Author.Tests.{lt-ltb}
 use Rattle.laws.specs.Parts.{Stretch, bytesOf}
-use Rattle.rectangle.specs.Rectangles.{heightOf}
+use Rattle.rectangle.specs.Rectangles.{widthOf, heightOf}
 use Rattle.screen.proofs.Sizes.{decides-screen}
 use Rattle.block.specs.Block.{blockLength, rowCells, rowStretch}
-use Rattle.block.proofs.Rows.{row-not-empty}
+use Rattle.block.proofs.Rows.{row-length}
 use Rattle.port.specs.declared.Port.{Port}
 use Rattle.port.specs.Valid.{ValidPort}
 use Rattle.port.proofs.Validity.{decides-valid, viewport-on-screen}
@@ -45,9 +45,10 @@ module _ (p : Port) (s : List ℕ) (row : ℕ) (v : ValidPort p) (len : length s
   unfolding rowCall
   row-shown = simp (decides-screen (length s) .passes len, decides-valid p .passes v, lt-ltb row (heightOf (p .view .viewport)) low)
 
-  pub row-has-cells : 0 < length (bytesOf (rowCall p (length s) row) s)
+  -- not a column short
+  pub row-width : length (bytesOf (rowCall p (length s) row) s) ≡ widthOf (p .view .viewport)
   unfolding rowCells
-  row-has-cells =
-      let wide = v .view .legal .wide in
-      let size = ap (λ (x : Stretch). length (bytesOf x s)) row-shown ∙ row-not-empty (p .view .viewport) row s (viewport-on-screen p v) low len in
-      omega arith
+  row-width = ap (λ (x : Stretch). length (bytesOf x s)) row-shown ∙ row-length (p .view .viewport) row s (viewport-on-screen p v) low len
+
+  pub row-has-cells : 0 < length (bytesOf (rowCall p (length s) row) s)
+  row-has-cells = let wide = v .view .legal .wide in let size = row-width in omega arith

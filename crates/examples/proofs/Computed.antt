@@ -74,10 +74,10 @@ cellsRight e =
 abbrev passes : Example → Bool
 passes e = portRight e && cellsRight e
 
-fresh : ValidPort freshConsole
+pub fresh : ValidPort freshConsole
 fresh = fresh-valid wholeScreen (omega arith)
 
-blank-size : length blankScreen ≡ 1920
+pub blank-size : length blankScreen ≡ 1920
 unfolding blankScreen
 blank-size = length-tabulate 1920 _
 

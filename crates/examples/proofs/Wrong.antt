@@ -5,15 +5,13 @@ use mathlib.Core.Logic.{⊎-elim}
 use mathlib.Core.List.{List, [], _∷_}
 use native.Mathlib.Omega.{arith}
 use lib.ListN.{length, getD}
-use Rattle.laws.specs.Tabulate.{length-tabulate, getD-tabulate}
+use Rattle.laws.specs.Tabulate.{getD-tabulate}
 use Rattle.laws.proofs.Tests.{decides-eq, either}
 use Rattle.rectangle.specs.Edit.{draw}
-use Rattle.rectangle.specs.Rectangles.{wholeScreen}
 use Rattle.port.specs.declared.Port.{Port}
 use Rattle.port.specs.State.{zeroView}
-use Rattle.port.specs.Valid.{ValidPort}
 use Rattle.port.specs.Stream.{stream}
-use Rattle.port.proofs.Validity.{decides-valid, fresh-valid}
+use Rattle.port.proofs.Validity.{decides-valid}
 use Rattle.reply.specs.declared.Status.the-variants.{Done}
 use Rattle.reply.specs.Reply.{refusal}
 use Rattle.calls.specs.Calls.{PortReply, PortCall, written}
@@ -23,14 +21,8 @@ use Rattle.console.proofs.Cut.{write-bells}
 use Rattle.examples.specs.Example.{blankScreen}
 use Rattle.examples.specs.Table.{P1}
 use Rattle.examples.specs.Wrong.{Meets, onFresh, RefusesEverything, AnswersBlank, DoesNothing, ObeysTheFirst, InventsBells}
+use Rattle.examples.proofs.Computed.{fresh, blank-size}
 use Rattle.examples.proofs.Claim.{examples-hold}
-
-fresh : ValidPort freshConsole
-fresh = fresh-valid wholeScreen (omega arith)
-
-blank-size : length blankScreen ≡ 1920
-unfolding blankScreen
-blank-size = length-tabulate 1920 _
 
 -- the cell at (0,0)
 abbrev corner : List ℕ → ℕ

@@ -1,4 +1,4 @@
--- Paper 01, 'From code to stored byte' and 'The codes': what printing and each code do to a view, in the paper's order but for $1C, which printing needs. The names are document 000's. Assumes nothing.
+-- Paper 01, 'From code to stored byte' and 'The codes': what printing and each code do to a view, in the paper's order but for $1C, which printing needs. $00, $01, $04 and $07, which are no matter of a view alone, are in `Step.antt`, as is what waits. The names are document 000's. Assumes nothing.
 use Prim.Native.Nat.{ℕ, zero, suc, _+_, _-_, _/_, _%_, min, max}
 use mathlib.Core.Bool.{Bool, true, false, cond, _&&_}
 use mathlib.Core.List.{List, [], _∷_}

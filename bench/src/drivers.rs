@@ -15,7 +15,7 @@ pub struct Peer {
     pub one_byte_call: bool,
 }
 
-/// A stream and the length of the pieces that it is handed over in.
+/// A stream and the length of the pieces that it is fed in.
 #[derive(Clone, Copy)]
 pub struct Task<'a> {
     pub length: Length,

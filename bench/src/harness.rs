@@ -10,7 +10,7 @@ pub enum Length {
     Short,
 }
 
-/// The stream that is handed over in small pieces too, and their lengths.
+/// The stream that is fed in small pieces too, and their lengths.
 pub const LINES: &str = "a_lines";
 pub const SMALL_PIECES: [usize; 2] = [1, 16];
 

@@ -13,7 +13,7 @@ use crate::workloads::PAGE_SIZE;
 /// Rounds of a slow console, and repeats of a short workload.
 const FEW: usize = 3;
 
-/// A workload, and the length of the pieces that it is handed over in.
+/// A workload, and the length of the pieces that it is fed in.
 struct Column {
     name: String,
     unit: String,

@@ -9,7 +9,7 @@ pub struct Workload {
     pub unit: String,
     pub count: usize,
     pub stream: Vec<u8>,
-    /// How it is handed over when it is timed.
+    /// How it is fed when it is timed.
     pub feed: Feed,
 }
 

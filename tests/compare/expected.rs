@@ -14,7 +14,7 @@ pub fn read(input: &[u8]) -> &[u8] {
     &input[..input.len().min(INPUT_LIMIT)]
 }
 
-/// The output for an input handed over in one write.
+/// The output for an input fed in one write.
 pub fn whole(input: &[u8]) -> String {
     without_limit(read(input))
 }
@@ -27,7 +27,7 @@ pub fn without_limit(input: &[u8]) -> String {
     print(&screen, port.state.cursor, bells)
 }
 
-/// The output for an input handed over one byte a write. Before each
+/// The output for an input fed one byte a write. Before each
 /// byte `see` is shown the port and the byte.
 pub fn cut(input: &[u8], mut see: impl FnMut(&Port, u8)) -> String {
     let mut screen = [BLANK; SCREEN_SIZE];

@@ -33,7 +33,7 @@ extern "C" {
     ) -> usize;
 }
 
-/// How a stream is handed over.
+/// How a stream is fed.
 #[derive(Clone, Copy, Debug, PartialEq, Eq)]
 pub enum Feed {
     /// In writes of at most so many bytes; 0 is refused.

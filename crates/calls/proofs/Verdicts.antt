@@ -23,7 +23,7 @@ pub off-screen : (size : ℕ) → (size ≡ 1920 → ⊥) → screenVerdict size
 unfolding screenVerdict
 off-screen size no-screen = rw (fails (decides-screen size) no-screen)
 
--- a test that refuses where it fails: what its judgement shows
+-- a test that refuses where it fails: what its verdict shows
 pub accepted-by : (t : Bool) (status : Status) → cond t Accepted (Refused status) ≡ Accepted → t ≡ true
 accepted-by true status e = refl
 accepted-by false status e = absurd (let z : _≡_ {A = ℕ} 0 1 = cc in omega arith)
@@ -49,13 +49,13 @@ both-accepted Accepted b e = (refl, e)
 pub ruleset firsts = (first-refused, first-accepted)
 
 module _ {State Result : Type 0} (nothing : Result) (state : State) (s block : List ℕ) (reply : Reply Status State Result) where
-  pub made : {j : Verdict} → j ≡ Accepted → onVerdict nothing j state s block reply ≡ reply
+  pub on-accepted : {j : Verdict} → j ≡ Accepted → onVerdict nothing j state s block reply ≡ reply
   unfolding onVerdict
-  made e = rw e
+  on-accepted e = rw e
 
-  pub refused : {j : Verdict} (status : Status) → j ≡ Refused status → onVerdict nothing j state s block reply ≡ refusalWith nothing status state s block
+  pub on-refused : {j : Verdict} (status : Status) → j ≡ Refused status → onVerdict nothing j state s block reply ≡ refusalWith nothing status state s block
   unfolding onVerdict
-  refused status e = rw e
+  on-refused status e = rw e
 
   -- a property of the refusals and of the reply is one of the call
   pub by-verdict : (P : Reply Status State Result → Type 0) (j : Verdict) → ((status : Status) → j ≡ Refused status → P (refusalWith nothing status state s block)) → (j ≡ Accepted → P reply) → P (onVerdict nothing j state s block reply)

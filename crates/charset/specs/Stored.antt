@@ -15,6 +15,10 @@ isPrinting code = leb 0x20 code
 abbrev pub Printing : ℕ → Type 0
 Printing code = 0x20 ≤ code
 
+-- the others
+abbrev pub ControlCode : ℕ → Type 0
+ControlCode code = code < 0x20
+
 unfoldable pub inRange : ℕ → ℕ → ℕ → Bool
 inRange low high code = leb low code && leb code high
 

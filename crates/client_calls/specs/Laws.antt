@@ -1,4 +1,4 @@
--- What is claimed of the calls by client, each on its own: when each status is given. Assumes nothing.
+-- Paper 01, 'What comes back': when each status of a call by client is given. Assumes nothing.
 use Prim.Native.Nat.{ℕ, _≤_, _<_}
 use mathlib.Core.Path.{_≡_}
 use mathlib.Core.List.{List, [], _∷_}

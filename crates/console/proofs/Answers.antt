@@ -15,33 +15,33 @@ use Rattle.reply.specs.Reply.{refusal}
 use Rattle.calls.specs.declared.Verdict.the-variants.{Accepted, Refused}
 use Rattle.calls.specs.Verdict.{firstOf}
 use Rattle.calls.specs.Calls.{PortReply, PortCall, written, blockReturned, blockRestored}
-use Rattle.calls.proofs.Verdicts.{on-screen, off-screen, made, refused, by-verdict}
+use Rattle.calls.proofs.Verdicts.{on-screen, off-screen, on-accepted, on-refused, by-verdict}
 use Rattle.calls.proofs.Refusals.{Unchanged, written-refuses, returned-refuses, restored-refuses}
 use Rattle.console.specs.Calls.{portVerdict, plainVerdict, plainCall, writeCall, returnCall, restoreCall}
 
 -- 1 where there are not 1,920 cells, then 2 where the port is not valid, and else none
 module _ (p : Port) (s : List ℕ) where
-  pub judges-good : ValidPort p → length s ≡ 1920 → plainVerdict p (length s) ≡ Accepted
+  pub verdict-good : ValidPort p → length s ≡ 1920 → plainVerdict p (length s) ≡ Accepted
   unfolding plainVerdict firstOf portVerdict
-  judges-good v len = rw (on-screen (length s) len, decides-valid p .passes v)
+  verdict-good v len = rw (on-screen (length s) len, decides-valid p .passes v)
 
-  judges-length : (length s ≡ 1920 → ⊥) → plainVerdict p (length s) ≡ Refused ScreenLength
+  verdict-length : (length s ≡ 1920 → ⊥) → plainVerdict p (length s) ≡ Refused ScreenLength
   unfolding plainVerdict firstOf
-  judges-length no-screen = rw (off-screen (length s) no-screen)
+  verdict-length no-screen = rw (off-screen (length s) no-screen)
 
-  judges-port : length s ≡ 1920 → (ValidPort p → ⊥) → plainVerdict p (length s) ≡ Refused Invalid
+  verdict-port : length s ≡ 1920 → (ValidPort p → ⊥) → plainVerdict p (length s) ≡ Refused Invalid
   unfolding plainVerdict firstOf portVerdict
-  judges-port len bad = rw (on-screen (length s) len, fails (decides-valid p) bad)
+  verdict-port len bad = rw (on-screen (length s) len, fails (decides-valid p) bad)
 
 module _ (call : PortCall) (p : Port) (s block : List ℕ) where
   pub accepted : ValidPort p → length s ≡ 1920 → plainCall call p s block ≡ call p s block
-  accepted v len = made 0 p s block (call p s block) (judges-good p s v len)
+  accepted v len = on-accepted 0 p s block (call p s block) (verdict-good p s v len)
 
   pub refused-length : (length s ≡ 1920 → ⊥) → plainCall call p s block ≡ refusal ScreenLength p s block
-  refused-length no-screen = refused 0 p s block (call p s block) ScreenLength (judges-length p s no-screen)
+  refused-length no-screen = on-refused 0 p s block (call p s block) ScreenLength (verdict-length p s no-screen)
 
   pub refused-port : length s ≡ 1920 → (ValidPort p → ⊥) → plainCall call p s block ≡ refusal Invalid p s block
-  refused-port len bad = refused 0 p s block (call p s block) Invalid (judges-port p s len bad)
+  refused-port len bad = on-refused 0 p s block (call p s block) Invalid (verdict-port p s len bad)
 
 status-of : (t : Bool) (a b : PortReply) → cond t a b .status ≡ cond t (a .status) (b .status)
 status-of true a b = refl

@@ -24,7 +24,7 @@ use Rattle.calls.specs.declared.Verdict.{Verdict}
 use Rattle.calls.specs.declared.Verdict.the-variants.{Accepted, Refused}
 use Rattle.calls.specs.Verdict.{screenVerdict, firstOf}
 use Rattle.calls.specs.Calls.{PortReply, PortCall, answerOf}
-use Rattle.calls.proofs.Verdicts.{accepted-by, screen-accepted, both-accepted, made, refused}
+use Rattle.calls.proofs.Verdicts.{accepted-by, screen-accepted, both-accepted, on-accepted, on-refused}
 use Rattle.console.specs.declared.ByteAnswer.{ByteAnswer}
 use Rattle.console.specs.Calls.{portVerdict, plainVerdict, plainCall, rowCall}
 
@@ -48,10 +48,10 @@ module _ (p : Port) (s : List ℕ) (j : Verdict) (is : j ≡ plainVerdict p (len
   module _ (call : PortCall) (block : List ℕ) where
     pub replies-refused : (status : Status) (a : Answer) → j ≡ Refused status → a ≡ answerOf status p 0 → Replies (plainCall call p s block) (a .status) (a .port) (a .count) s block
     replies-refused status a e h =
-        rw (refused 0 p s block (call p s block) status (sym is ∙ e), h) (record { status-is = refl; state-is = refl; result-is = refl; cells = refl; bytes = refl })
+        rw (on-refused 0 p s block (call p s block) status (sym is ∙ e), h) (record { status-is = refl; state-is = refl; result-is = refl; cells = refl; bytes = refl })
 
-    pub replies-made : (a : Answer) (t after : List ℕ) → j ≡ Accepted → Replies (call p s block) (a .status) (a .port) (a .count) t after → Replies (plainCall call p s block) (a .status) (a .port) (a .count) t after
-    replies-made a t after e h = rw (made 0 p s block (call p s block) (sym is ∙ e)) h
+    pub replies-accepted : (a : Answer) (t after : List ℕ) → j ≡ Accepted → Replies (call p s block) (a .status) (a .port) (a .count) t after → Replies (plainCall call p s block) (a .status) (a .port) (a .count) t after
+    replies-accepted a t after e h = rw (on-accepted 0 p s block (call p s block) (sym is ∙ e)) h
 
   -- ---- rows
   no-row : (row : ℕ) (status : Status) → j ≡ Refused status → rowCall p (length s) row ≡ noStretch

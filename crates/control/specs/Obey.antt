@@ -3,6 +3,7 @@ use Prim.Native.Nat.{ℕ, _<_}
 use mathlib.Core.Path.{_≡_}
 use mathlib.Core.List.{List}
 use Rattle.rectangle.specs.declared.Rect.{Rect}
+use Rattle.charset.specs.Stored.{ControlCode}
 use Rattle.port.specs.declared.Port.{Port}
 use Rattle.port.specs.Valid.{parameters}
 use Rattle.port.specs.Step.{Outcome}
@@ -15,7 +16,7 @@ use Rattle.control.specs.Active.{withActive}
 pub record Ready (a : Active) (b : ℕ) : Type 0 where
   pub placed : Placed (a .view)
   pub few : a .count < 4
-  pub code : a .waiting ≡ 0 → (b < 32) × (b ≡ 1 → ⊥) × (b ≡ 4 → ⊥)
+  pub code : a .waiting ≡ 0 → ControlCode b × (b ≡ 1 → ⊥) × (b ≡ 4 → ⊥)
   pub wanted : (a .waiting ≡ 0 → ⊥) → 0 < parameters (a .waiting)
 
 -- what is done to a port was done to its active part, whatever its home and whatever is saved: those stay

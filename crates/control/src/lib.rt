@@ -29,7 +29,7 @@ ghost use Prim.Native.Nat.{_<_};
 ghost use mathlib.Core.Path.{_≡_};
 ghost use lib.ListN.{length};
 ghost use Rattle.rectangle.specs.Edit.{draw};
-ghost use Rattle.charset.specs.Stored.{Agrees};
+ghost use Rattle.charset.specs.Stored.{ControlCode, Agrees};
 ghost use Rattle.port.specs.Step as rules;
 ghost use Rattle.view.specs.Plan.{effectOf, planEffect};
 ghost use Rattle.printer.specs.Execute.{AllOnScreen};
@@ -55,7 +55,7 @@ fn planned(screen: &mut [u8], a: Active, to: ViewPlan) -> Active
 
 // A control code but $01 and $04, which touch what is saved: each by its own arm, and the last is $1F. The bell of $07 is the caller's to count.
 fn control(screen: &mut [u8], a: Active, code: u8) -> Active
-    requires { ⌜ Placed (a .view) × (code < 32) × (code ≡ 1 → ⊥) × (code ≡ 4 → ⊥) × (length (now screen) ≡ 1920) ⌝ }
+    requires { ⌜ Placed (a .view) × ControlCode code × (code ≡ 1 → ⊥) × (code ≡ 4 → ⊥) × (length (now screen) ≡ 1920) ⌝ }
     ensures { λ r. ⌜ Obeys (λ p. rules.control p code) a r (now (screen .entry)) (now (screen .exit)) ⌝ }
 {
     let v = a.view;

@@ -8,13 +8,14 @@ use native.Mathlib.Omega.{arith}
 use lib.Dec.{eqb}
 use lib.ListN.{length, getD}
 use borrow.Author.Tests.{eqb-true}
-use Rattle.laws.specs.Tabulate.{length-tabulate, getD-tabulate}
 use Rattle.laws.proofs.Tests.{below?, and-left, and-right, Decides, decides-eq, decides-both, decides-as}
 use Rattle.rectangle.specs.declared.Rect.{Rect}
 use Rattle.rectangle.specs.declared.Edit.{Edit}
 use Rattle.rectangle.specs.Edit.{draw, drawCell}
 use Rattle.rectangle.specs.Rectangles.{wholeScreen}
 use Rattle.rectangle.proofs.Local.{draw-cells}
+use Rattle.screen.specs.Size.{blankScreen}
+use Rattle.screen.proofs.Sizes.{blank-size, blank-at}
 use Rattle.port.specs.declared.View.{View}
 use Rattle.port.specs.Valid.{ValidPort}
 use Rattle.port.specs.Step.{Outcome}
@@ -25,7 +26,7 @@ use Rattle.port.proofs.Streams.{keeps-stream, stream-local}
 use Rattle.calls.specs.Calls.{PortReply, written}
 use Rattle.console.specs.Calls.{freshConsole, writeCall}
 use Rattle.console.proofs.Answers.{accepted}
-use Rattle.examples.specs.Example.{Cell, Example, blankScreen, before, after, named, Shows, Holds, AllHold}
+use Rattle.examples.specs.Example.{Cell, Example, before, after, named, Shows, Holds, AllHold}
 
 -- a test passes at each number below n
 abbrev everyBelow : ℕ → (ℕ → Bool) → Bool
@@ -76,14 +77,6 @@ passes e = portRight e && cellsRight e
 
 pub fresh : ValidPort freshConsole
 fresh = fresh-valid wholeScreen (omega arith)
-
-pub blank-size : length blankScreen ≡ 1920
-unfolding blankScreen
-blank-size = length-tabulate 1920 _
-
-blank-at : (k : ℕ) → k < 1920 → getD blankScreen k 0 ≡ 0xa0
-unfolding blankScreen
-blank-at k h = getD-tabulate 1920 _ k h
 
 holds : (e : Example) → passes e ≡ true → Holds e
 unfolding written

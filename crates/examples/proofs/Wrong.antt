@@ -5,9 +5,10 @@ use mathlib.Core.Logic.{⊎-elim}
 use mathlib.Core.List.{List, [], _∷_}
 use native.Mathlib.Omega.{arith}
 use lib.ListN.{length, getD}
-use Rattle.laws.specs.Tabulate.{getD-tabulate}
 use Rattle.laws.proofs.Tests.{decides-eq, either}
 use Rattle.rectangle.specs.Edit.{draw}
+use Rattle.screen.specs.Size.{blankScreen}
+use Rattle.screen.proofs.Sizes.{blank-size, blank-at}
 use Rattle.port.specs.declared.Port.{Port}
 use Rattle.port.specs.State.{zeroView}
 use Rattle.port.specs.Stream.{stream}
@@ -18,10 +19,9 @@ use Rattle.calls.specs.Calls.{PortReply, PortCall, written}
 use Rattle.console.specs.Calls.{freshConsole, writeCall}
 use Rattle.console.proofs.Answers.{accepted, refused-length, refused-port, write-answers}
 use Rattle.console.proofs.Cut.{write-bells}
-use Rattle.examples.specs.Example.{blankScreen}
 use Rattle.examples.specs.Table.{P1}
 use Rattle.examples.specs.Wrong.{Meets, onFresh, RefusesEverything, AnswersBlank, DoesNothing, ObeysTheFirst, InventsBells}
-use Rattle.examples.proofs.Computed.{fresh, blank-size}
+use Rattle.examples.proofs.Computed.{fresh}
 use Rattle.examples.proofs.Claim.{examples-hold}
 
 -- the cell at (0,0)
@@ -29,8 +29,7 @@ abbrev corner : List ℕ → ℕ
 corner s = getD s 0 0
 
 blank-corner : corner blankScreen ≡ 0xa0
-unfolding blankScreen
-blank-corner = getD-tabulate 1920 _ 0 (omega arith)
+blank-corner = blank-at 0 (omega arith)
 
 -- an example with no scene is a write to a fresh console: an empty write leaves it as it is
 abbrev again : List ℕ → PortReply

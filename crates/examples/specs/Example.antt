@@ -5,9 +5,9 @@ use mathlib.Core.Bool.{cond}
 use mathlib.Core.List.{List, [], _∷_}
 use lib.Dec.{eqb}
 use lib.ListN.{length, getD}
-use Rattle.laws.specs.Tabulate.{tabulate}
 use Rattle.rectangle.specs.declared.Rect.{Rect}
 use Rattle.rectangle.specs.Cells.{cellIndex}
+use Rattle.screen.specs.Size.{blankScreen}
 use Rattle.reply.specs.declared.Status.the-variants.{Done}
 use Rattle.calls.specs.Calls.{PortReply}
 use Rattle.console.specs.Calls.{freshConsole, writeCall}
@@ -28,11 +28,7 @@ pub record Example : Type 0 where
   pub line : ℕ
   pub bells : ℕ
 
--- 'in the examples a fresh console's screen is all blanks'
-unfoldable pub blankScreen : List ℕ
-blankScreen = tabulate 1920 (λ _. 0xa0)
-
--- before the example's bytes, and after them
+-- before the example's bytes, and after them: 'in the examples a fresh console's screen is all blanks'
 abbrev pub before : Example → PortReply
 before e = writeCall freshConsole blankScreen (e .scene)
 

@@ -14,8 +14,8 @@ example scene bytes cells viewport column line =
     record { scene = scene; bytes = bytes; cells = cells; viewport = viewport; column = column; line = line; bells = 0 }
 
 -- 'the viewport of P6'
-abbrev smallPort : Rect
-smallPort = rectOf 10 5 12 7
+abbrev smallViewport : Rect
+smallViewport = rectOf 10 5 12 7
 
 -- 'the viewport of P6, each line $81 $82 $83': set it, scroll off, A B C in each line, scroll on, cursor home
 abbrev smallText : List ℕ
@@ -43,14 +43,14 @@ abbrev pub P5 : Example
 P5 = example [] (0xe1 ∷ []) (cell 0 0 0x61 ∷ []) wholeScreen 1 0
 
 abbrev pub P6 : Example
-P6 = example [] (0x02 ∷ 0x2a ∷ 0x25 ∷ 0x2c ∷ 0x27 ∷ []) [] smallPort 10 5
+P6 = example [] (0x02 ∷ 0x2a ∷ 0x25 ∷ 0x2c ∷ 0x27 ∷ []) [] smallViewport 10 5
 
 abbrev pub P7 : Example
 P7 = example [] (0x02 ∷ 0x20 ∷ 0x20 ∷ 0x20 ∷ 0x21 ∷ []) [] wholeScreen 0 0
 
 -- P7 after P6, with the cursor moved: the viewport and the cursor stay
 abbrev pub P7-after-P6 : Example
-P7-after-P6 = example (P6 .bytes ++ (0x1c ∷ [])) (P7 .bytes) [] smallPort 11 5
+P7-after-P6 = example (P6 .bytes ++ (0x1c ∷ [])) (P7 .bytes) [] smallViewport 11 5
 
 abbrev pub P8 : Example
 P8 = example [] (0x02 ∷ 0x20 ∷ 0x20 ∷ 0x7f ∷ 0x7f ∷ []) [] wholeScreen 0 0
@@ -72,13 +72,13 @@ P10-over-text = example (0x41 ∷ 0x19 ∷ []) (0x08 ∷ []) (cell 0 0 0xa0 ∷ 
 
 -- the scene that P11 and P12 start from
 abbrev pub P11-scene : Example
-P11-scene = example [] smallText (smallCells 0x81 0x82 0x83) smallPort 10 5
+P11-scene = example [] smallText (smallCells 0x81 0x82 0x83) smallViewport 10 5
 
 abbrev pub P11 : Example
-P11 = example smallText (0x05 ∷ 0xff ∷ []) (smallCells 0x82 0x83 0xa0) smallPort 10 5
+P11 = example smallText (0x05 ∷ 0xff ∷ []) (smallCells 0x82 0x83 0xa0) smallViewport 10 5
 
 abbrev pub P12 : Example
-P12 = example smallText (0x05 ∷ 0x80 ∷ []) (smallCells 0xa0 0xa0 0xa0) smallPort 10 5
+P12 = example smallText (0x05 ∷ 0x80 ∷ []) (smallCells 0xa0 0xa0 0xa0) smallViewport 10 5
 
 abbrev pub examples : List Example
 examples = P1 ∷ P2 ∷ P3 ∷ P4 ∷ P5 ∷ P6 ∷ P7 ∷ P7-after-P6 ∷ P8 ∷ P8-after-P6 ∷ P9 ∷ P10 ∷ P10-over-text ∷ P11-scene ∷ P11 ∷ P12 ∷ []

@@ -2,13 +2,13 @@
 use Prim.Native.Nat.{ℕ, _<_}
 use mathlib.Core.Path.{_≡_}
 use mathlib.Core.List.{List, [], _∷_}
+use Rattle.screen.specs.Size.{blankScreen}
 use Rattle.port.specs.declared.Port.{Port}
 use Rattle.port.specs.Commands.{commandCodes, occurrences, waitOf}
 use Rattle.reply.specs.declared.Status.the-variants.{Done}
 use Rattle.reply.specs.Reply.{Replies}
 use Rattle.calls.specs.Calls.{PortReply, PortCall}
 use Rattle.console.specs.Calls.{freshConsole, writeCall}
-use Rattle.examples.specs.Example.{blankScreen}
 
 -- what `console::write` promises, of any write: for every port, screen and stream
 abbrev pub Meets : PortCall → Type 0

@@ -196,7 +196,7 @@ module _ {p₀ : Port} {bs s₀ : List ℕ} {i : ℕ} {p : Port} {rung : ℕ} {s
       subst (λ (x : ℕ). Executed (stream p₀ bs) p x s₀ s) (add-zero rung)
       (r .rest p 0 s (subst (λ (x : List ℕ). Executed (stream p x) p 0 s s) (sym none) (nothing-executed p s)))
 
--- ---- the three ways through the loop, from a port whose active part is carried apart
+-- ---- the three ways through the loop, from a port whose active part is executed apart
 module _ {p₀ : Port} {bs s₀ : List ℕ} {i : ℕ} (p : Port) (a : Active) {rung : ℕ} {s : List ℕ} (r : Streaming p₀ bs s₀ i (withActive p a) rung s) where
   silent : (q : Port) (n : ℕ) (t : List ℕ) → i + n ≤ length bs → Executed (stream (withActive p a) (take n (drop i bs))) q 0 s t → Streaming p₀ bs s₀ (i + n) q rung t
   silent q n t inside d = subst (λ (x : ℕ). Streaming p₀ bs s₀ (i + n) q x t) (add-zero rung) (streaming-on r q n 0 t inside (omega arith) d)
@@ -214,9 +214,9 @@ module _ {p₀ : Port} {bs s₀ : List ℕ} {i : ℕ} (p : Port) (a : Active) {r
       let b : ℕ = getD bs i 0 in
       let small : b < 32 = ⊎-elim (λ e. omega arith) (λ e. omega arith) code in
       let outcome : becomesPort next ≡ step (withActive p a) b = saves ∙ ap (λ (x : Port). control x b) joined ∙ sym (step-controls (withActive p a) b none small) in
-      let carried : Executed (step (withActive p a) b) next 0 s s = subst (λ (m : Outcome). Executed m next 0 s s) outcome (record { port-is = refl; bells-are = refl; cells = refl }) in
+      let executed : Executed (step (withActive p a) b) next 0 s s = subst (λ (m : Outcome). Executed m next 0 s s) outcome (record { port-is = refl; bells-are = refl; cells = refl }) in
       subst (λ (x : Active). Streaming p₀ bs s₀ (i + 1) (withActive next x) rung s) (sym split)
-      (subst (λ (x : ℕ). Streaming p₀ bs s₀ (i + 1) next x s) (add-zero rung) (streaming-again r next 0 s more carried))
+      (subst (λ (x : ℕ). Streaming p₀ bs s₀ (i + 1) next x s) (add-zero rung) (streaming-again r next 0 s more executed))
 
   pub after-control : (k : ℕ) (t : List ℕ) {a′ : Active} → Obeyed (step (withActive p a) (getD bs i 0)) (withActive p a′) s t → k ≡ cond (eqb (a .waiting) 0 && eqb (getD bs i 0) 7) 1 0 → i < length bs
       → Streaming p₀ bs s₀ (i + 1) (withActive p a′) (rung + k) t

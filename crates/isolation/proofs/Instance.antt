@@ -5,7 +5,7 @@ use mathlib.Core.Path.{_≡_, refl, ap, _∙_, subst}
 use mathlib.Core.Bool.{Bool, true, false, cond}
 use mathlib.Core.List.{List, [], _∷_, map}
 use lib.Dec.{eqb}
-use lib.ListN.{length, getD, replicate, length-replicate}
+use lib.ListN.{length, getD}
 use borrow.Author.Tests.{eqb-true}
 use Rattle.laws.proofs.Tests.{not-both}
 use Rattle.rectangle.specs.declared.Rect.{Rect}
@@ -14,6 +14,8 @@ use Rattle.rectangle.specs.Cells.{inside}
 use Rattle.rectangle.specs.Rectangles.{rectOf, sharesCell}
 use Rattle.rectangle.specs.Edit.{vacated, editedCell, edited, draw}
 use Rattle.rectangle.proofs.Local.{length-edited, edited-at}
+use Rattle.screen.specs.Size.{blankScreen}
+use Rattle.screen.proofs.Sizes.{blank-size}
 use Rattle.block.specs.Block.{blockLength, blockFits, blockPlace}
 use Rattle.block.proofs.Restores.{restored-inside}
 use Rattle.charset.specs.Stored.{inRange, storedSymbol, storedCapital, storedHigh, storedByte}
@@ -40,9 +42,6 @@ use Rattle.client_calls.proofs.Opened.{opens, open-valid}
 use Rattle.client_calls.proofs.Closed.{fresh-multiplexer}
 use Rattle.isolation.proofs.Isolation.{isolation}
 
-unfoldable pub blankScreen : List ℕ
-blankScreen = replicate 1920 0xa0
-
 abbrev pub leftPane : Rect
 leftPane = rectOf 0 0 1 1
 
@@ -57,10 +56,6 @@ firstOpening = openCall freshMultiplexer blankScreen 7 leftPane
 
 secondOpening : MultiplexerReply
 secondOpening = openCall (firstOpening .state) (firstOpening .screen) 200 rightPane
-
-pub blank-length : length blankScreen ≡ 1920
-unfolding blankScreen
-blank-length = simp length-replicate
 
 -- with one slot open, the first
 single : Multiplexer
@@ -79,7 +74,7 @@ first-claims = record {
 
 first-opened : firstOpening ≡ record { status = Done; state = single; result = 0; screen = edited leftPane Clear 0xa0 blankScreen; block = [] }
 unfolding firstOpening single freeSlot slotOf
-first-opened = opens freshMultiplexer blankScreen 7 leftPane blank-length first-claims
+first-opened = opens freshMultiplexer blankScreen 7 leftPane blank-size first-claims
 
 single-valid : ValidMultiplexer single
 unfolding firstOpening
@@ -122,7 +117,7 @@ calls =
     ∷ []
 
 instance-isolated : Isolated serve pair blankScreen calls
-instance-isolated = isolation .isolated pair blankScreen calls pair-valid blank-length
+instance-isolated = isolation .isolated pair blankScreen calls pair-valid blank-size
 
 pub left-open : Open pair 0
 unfolding pair
@@ -196,7 +191,7 @@ second-cell =
 
 -- the second half is not empty either: the calls of two clients, in either order
 two-orders : (a b : Kind) → SameEnd serve pair blankScreen (callBy 7 a ∷ callBy 200 b ∷ []) (callBy 200 b ∷ callBy 7 a ∷ [])
-two-orders a b = isolation .same-end pair blankScreen _ _ pair-valid blank-length same
+two-orders a b = isolation .same-end pair blankScreen _ _ pair-valid blank-size same
   where
     swap : (t u : Bool) → (t ≡ true → u ≡ true → ⊥) → cond t (a ∷ cond u (b ∷ []) []) (cond u (b ∷ []) []) ≡ cond u (b ∷ cond t (a ∷ []) []) (cond t (a ∷ []) [])
     swap true true h = absurd (h refl refl)

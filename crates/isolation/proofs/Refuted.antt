@@ -1,4 +1,4 @@
--- Servers that demand 3 excludes. Assumes nothing.
+-- Servers that demand 3 excludes, and one that does not make the calls of the contracts. Assumes nothing.
 use Prim.Native.Nat.{ℕ}
 use native.Mathlib.Omega.{arith}
 use mathlib.Core.Path.{_≡_, refl, sym, ap, _∙_}
@@ -8,6 +8,8 @@ use lib.Dec.{ltb, eqb}
 use lib.ListN.{length, getD, set, length-set}
 use Rattle.laws.proofs.Tests.{not-both}
 use Rattle.rectangle.specs.Edit.{draw}
+use Rattle.screen.specs.Size.{blankScreen}
+use Rattle.screen.proofs.Sizes.{blank-size}
 use Rattle.block.specs.Block.{blockLength, blockFits, rowStart, rowCells, rowsFrom, blockOf}
 use Rattle.port.specs.Valid.{parameters}
 use Rattle.port.specs.Step.{control, obey, step}
@@ -24,7 +26,7 @@ use Rattle.client_calls.specs.Serve.{Kind, Call, callBy, lentBlock, callOnPort,
 use Rattle.isolation.specs.Isolation.{Answer, serveAll, standalone, callsOf, answersTo, Isolation}
 use Rattle.client_calls.specs.Serve.Kind.{Write, Return, Restore}
 use Rattle.client_calls.proofs.Serving.{serves-calls, goes-to}
-use Rattle.isolation.proofs.Instance.{blankScreen, blank-length, pair, pair-valid, left-open, right-open, none-0}
+use Rattle.isolation.proofs.Instance.{pair, pair-valid, left-open, right-open, none-0}
 
 -- the call, on slot i whatever its client
 abbrev onPlace : ℕ → Server
@@ -40,7 +42,7 @@ empties n = callBy n (Write []) ∷ []
 -- one that serves the first slot whatever the number: client 200 turns client 7's text inverse
 not-first-slot : Isolation (onPlace 0) → ⊥
 unfolding pair inverts serveAll callsOf standalone written stream step parameters control obey
-not-first-slot d = not-both refl (ap (λ (x : Slot). x .port .view .inverse) (d .isolated pair blankScreen (inverts 200) pair-valid blank-length .ports 0 left-open))
+not-first-slot d = not-both refl (ap (λ (x : Slot). x .port .view .inverse) (d .isolated pair blankScreen (inverts 200) pair-valid blank-size .ports 0 left-open))
 
 -- one that does nothing, and says that it is done
 doesNothing : Server
@@ -48,7 +50,7 @@ doesNothing m s c = refusal Done m s (lentBlock (c .kind))
 
 not-nothing : Isolation doesNothing → ⊥
 unfolding doesNothing pair inverts serveAll callsOf standalone written stream step parameters control obey
-not-nothing d = not-both (ap (λ (x : Slot). x .port .view .inverse) (d .isolated pair blankScreen (inverts 7) pair-valid blank-length .ports 0 left-open)) refl
+not-nothing d = not-both (ap (λ (x : Slot). x .port .view .inverse) (d .isolated pair blankScreen (inverts 7) pair-valid blank-size .ports 0 left-open)) refl
 
 -- the number of the first answer
 firstNumber : List Answer → ℕ
@@ -62,7 +64,7 @@ always8 m s c = refusal NotOpen m s (lentBlock (c .kind))
 not-always-8 : Isolation always8 → ⊥
 unfolding always8 firstNumber pair empties serveAll callsOf standalone answersTo written
 not-always-8 d =
-    let e : _≡_ {A = ℕ} 8 0 = ap firstNumber (d .isolated pair blankScreen (empties 7) pair-valid blank-length .answers 0 left-open) in
+    let e : _≡_ {A = ℕ} 8 0 = ap firstNumber (d .isolated pair blankScreen (empties 7) pair-valid blank-size .answers 0 left-open) in
     omega arith
 
 -- one that finds client 0 in a free slot
@@ -72,20 +74,20 @@ findsZero m s c = cond (ltb (slotOf m (c .client)) 4) (onPlace (slotOf m (c .cli
 not-finds-zero : Isolation findsZero → ⊥
 unfolding findsZero firstNumber pair freeSlot slotOf empties serveAll callsOf answersTo written
 not-finds-zero d =
-    let e : _≡_ {A = ℕ} 0 8 = ap firstNumber (d .isolated pair blankScreen (empties 0) pair-valid blank-length .answers-8 0 (none-0 pair)) in
+    let e : _≡_ {A = ℕ} 0 8 = ap firstNumber (d .isolated pair blankScreen (empties 0) pair-valid blank-size .answers-8 0 (none-0 pair)) in
     omega arith
 
 -- one that serves as it should, and changes the first cell of the screen when client 200 calls
-climbs : Server
-climbs m s c =
+writesOutside : Server
+writesOutside m s c =
     let r : MultiplexerReply = serve m s c in
     cond (eqb (c .client) 200) (record { status = r .status; state = r .state; result = r .result; screen = set (r .screen) 0 0; block = r .block }) r
 
-not-climbs : Isolation climbs → ⊥
-unfolding climbs blankScreen pair empties serveAll callsOf standalone written stream draw
-not-climbs d =
-    let cell = d .isolated pair blankScreen (empties 200) pair-valid blank-length .cells 0 left-open 0 (omega arith) in
-    let served = goes-to pair blankScreen (callBy 200 (Write [])) (decides-multiplexer pair .holds pair-valid) blank-length 1 right-open refl in
+not-writes-outside : Isolation writesOutside → ⊥
+unfolding writesOutside blankScreen pair empties serveAll callsOf standalone written stream draw
+not-writes-outside d =
+    let cell = d .isolated pair blankScreen (empties 200) pair-valid blank-size .cells 0 left-open 0 (omega arith) in
+    let served = goes-to pair blankScreen (callBy 200 (Write [])) (decides-multiplexer pair .holds pair-valid) blank-size 1 right-open refl in
     let e : _≡_ {A = ℕ} 0 0xa0 = rw served at cell in
     omega arith
 
@@ -106,7 +108,7 @@ firstCell (a ∷ xs) = getD (a .block) 2 0
 not-shows-other : Isolation showsOther → ⊥
 unfolding showsOther markedScreen firstCell blankScreen pair serveAll callsOf standalone answersTo blockReturned blockLength blockOf rowsFrom rowCells rowStart
 not-shows-other d =
-    let len : length markedScreen ≡ 1920 = length-set blankScreen 0 0x81 ∙ blank-length in
+    let len : length markedScreen ≡ 1920 = length-set blankScreen 0 0x81 ∙ blank-size in
     let e : _≡_ {A = ℕ} 0xa0 0x81 = ap firstCell (d .isolated pair markedScreen (callBy 7 (Return (0 ∷ 0 ∷ 0 ∷ 0 ∷ 0 ∷ 0 ∷ [])) ∷ []) pair-valid len .answers 0 left-open) in
     omega arith
 
@@ -123,8 +125,8 @@ not-swaps-blocks : ServesCalls swapsBlocks → ⊥
 unfolding swapsBlocks swapped pair blockReturned blockRestored blockLength blockFits
 not-swaps-blocks d =
     let valid = decides-multiplexer pair .holds pair-valid in
-    let returned = goes-to pair blankScreen (callBy 7 (Return [])) valid blank-length 0 left-open refl in
-    let restored = goes-to pair blankScreen (callBy 7 (Restore [])) valid blank-length 0 left-open refl in
+    let returned = goes-to pair blankScreen (callBy 7 (Return [])) valid blank-size 0 left-open refl in
+    let restored = goes-to pair blankScreen (callBy 7 (Restore [])) valid blank-size 0 left-open refl in
     let same = serves-calls .return pair blankScreen 7 [] in
     let e : _≡_ {A = ℕ} 10 9 = ap (λ (r : MultiplexerReply). statusNumber (r .status)) (sym restored ∙ d .return pair blankScreen 7 [] ∙ sym same ∙ returned) in
     omega arith

@@ -20,8 +20,8 @@ noStretch = stretch 0 0
 abbrev pub bytesOf : Stretch → List ℕ → List ℕ
 bytesOf x s = take (x .count) (drop (x .start) s)
 
--- part is that stretch of the lent slice itself. What a reference points to is a block of memory and a byte in it.
+-- part is that stretch of the lent slice itself. A reference points to an allocation, and a byte in it.
 pub record IsPart (lent part : RefT (List ℕ)) (x : Stretch) : Type 0 where
-  pub block : part .ptr .0 ≡ lent .ptr .0
+  pub allocation : part .ptr .0 ≡ lent .ptr .0
   pub place : part .ptr .1 ≡ x .start + lent .ptr .1
   pub bytes : part .now ≡ bytesOf x (lent .now)

@@ -31,7 +31,7 @@ room i j e h = lt-leb 4 j (omega arith)
 
 pub ruleset chain = (answers, eq-eqb, ne-eqb, no-room, room)
 
--- a judgement before it, by each way through it
+-- a verdict before it, by each way through it
 pub verdict-refused : (j : Verdict) (x : Located) (status : Status) → j ≡ verdict.Refused status → Refused status ≡ verdictFirst j x
 unfolding verdictFirst
 verdict-refused j x status e = rw e

@@ -38,7 +38,7 @@ freeSlotFor m n pane =
 unfoldable pub openSlot : Multiplexer → ℕ → Located
 openSlot m n = cond (not (hasClient m n)) (Refused NotOpen) (At (slotOf m n))
 
--- a judgement first, and where it refuses nothing, where the call goes
+-- a verdict first, and where it refuses nothing, where the call goes
 unfoldable pub verdictFirst : Verdict → Located → Located
 verdictFirst (verdict.Refused status) located = Refused status
 verdictFirst verdict.Accepted located = located

@@ -107,7 +107,7 @@ fn open_slot(m: Multiplexer, client: u8) -> Located
     Located::At(slot_of(m, client))
 }
 
-// A judgement first, and where it refuses nothing, where the call goes.
+// A verdict first, and where it refuses nothing, where the call goes.
 fn verdict_first(verdict: Verdict, located: Located) -> Located
     ensures { λ r. ⌜ r ≡ verdictFirst verdict located ⌝ }
 {

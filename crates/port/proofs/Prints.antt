@@ -1,10 +1,10 @@
 -- Where nothing waits, a code from $20 on is printed, and one below is a control code. Assumes nothing.
-use Prim.Native.Nat.{ℕ, _<_}
+use Prim.Native.Nat.{ℕ}
 use mathlib.Core.Path.{_≡_, ap, _∙_}
 use mathlib.Core.Bool.{cond}
 use lib.Dec.{ltb}
 use borrow.Author.Tests.{le-leb, lt-leb}
-use Rattle.charset.specs.Stored.{Printing}
+use Rattle.charset.specs.Stored.{Printing, ControlCode}
 use Rattle.port.specs.declared.Port.{Port}
 use Rattle.port.specs.Valid.{parameters}
 use Rattle.port.specs.Codes.{print}
@@ -19,6 +19,6 @@ pub step-prints : (p : Port) (b : ℕ) → p .waiting ≡ 0 → Printing b → s
 unfolding obey
 step-prints p b none large = step-obeys p b none ∙ simp (le-leb 32 b large)
 
-pub step-controls : (p : Port) (b : ℕ) → p .waiting ≡ 0 → b < 32 → step p b ≡ control p b
+pub step-controls : (p : Port) (b : ℕ) → p .waiting ≡ 0 → ControlCode b → step p b ≡ control p b
 unfolding obey
 step-controls p b none small = step-obeys p b none ∙ simp (lt-leb 32 b small)

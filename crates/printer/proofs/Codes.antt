@@ -131,11 +131,11 @@ module _ (v : View) (bytes : List ℕ) (from n : ℕ) (mode : Mode) (s t : List 
         let long : length codes ≡ n = taken-length bytes from n (run .within) in
         let stored : t ≡ storedRun (modeOf v) (v .column) (v .line) codes s = run .cells ∙ ap (λ (x : Mode). storedRun x (v .column) (v .line) codes s) is in
         let fits : v .column + length codes ≤ v .viewport .right = let h = run-fits in omega arith in
-        let carried =
+        let executed =
         subst (λ (x : View). Executed (stream p codes) (withView p (cursorAt x (x .column + length codes) (x .line))) 0 s (storedRun (modeOf x) (x .column) (x .line) codes s)) same
         (run-executed codes p s (ap (λ (x : View). x .flags .advance) same ∙ on) (subst (λ (x : View). x .column + length codes ≤ x .viewport .right) (sym same) fits) (run .printing) none) in
         subst (λ (u : List ℕ). Executed (stream p codes) (withView p (cursorAt v (v .column + n) (v .line))) 0 s u) (sym stored)
-        (subst (λ (k : ℕ). Executed (stream p codes) (withView p (cursorAt v (v .column + k) (v .line))) 0 s (storedRun (modeOf v) (v .column) (v .line) codes s)) long carried);
+        (subst (λ (k : ℕ). Executed (stream p codes) (withView p (cursorAt v (v .column + k) (v .line))) 0 s (storedRun (modeOf v) (v .column) (v .line) codes s)) long executed);
   }
 
 -- in an equal view

@@ -16,7 +16,7 @@ use Rattle.calls.specs.Calls.{PortReply}
 use Rattle.console.specs.Calls.{writeCall}
 use Rattle.console.proofs.Cut.{write-cut}
 use Rattle.session.specs.declared.Session.{Session}
-use Rattle.session.specs.Session.{after, Fed, FedBytewise}
+use Rattle.session.specs.Session.{after, Fed, FedIfAny}
 
 -- a call that replied as a plain write does
 pub fed : (at next : Session) (s bytes t : List ℕ) (a : Answer) → Replies (writeCall (at .port) s bytes) (a .status) (a .port) (a .count) t bytes → next ≡ after at (a .status) (a .port) (a .count)
@@ -52,23 +52,23 @@ module _ (at mid next : Session) (s a s₁ b t : List ℕ) where
       }
 
 -- after calls of which there may have been none
-fed-next : (at mid next : Session) (s a s₁ b t : List ℕ) → FedBytewise at s a mid s₁ → Fed mid s₁ b next t → Fed at s (a ++ b) next t
+fed-next : (at mid next : Session) (s a s₁ b t : List ℕ) → FedIfAny at s a mid s₁ → Fed mid s₁ b next t → Fed at s (a ++ b) next t
 fed-next at mid next s [] s₁ b t f g = subst (λ (x : Session). Fed x s b next t) (f .0) (subst (λ (x : List ℕ). Fed mid x b next t) (f .1) g)
 fed-next at mid next s (c ∷ cs) s₁ b t f g = fed-both at mid next s (c ∷ cs) s₁ b t f g
 
 -- some bytes
-some-fed : (at next : Session) (s bytes t : List ℕ) → 0 < length bytes → Fed at s bytes next t → FedBytewise at s bytes next t
+some-fed : (at next : Session) (s bytes t : List ℕ) → 0 < length bytes → Fed at s bytes next t → FedIfAny at s bytes next t
 some-fed at next s [] t some f = absurd (omega arith)
 some-fed at next s (b ∷ bs) t some f = f
 
-fed-some : (at next : Session) (s bytes t : List ℕ) → 0 < length bytes → FedBytewise at s bytes next t → Fed at s bytes next t
+fed-some : (at next : Session) (s bytes t : List ℕ) → 0 < length bytes → FedIfAny at s bytes next t → Fed at s bytes next t
 fed-some at next s [] t some f = absurd (omega arith)
 fed-some at next s (b ∷ bs) t some f = f
 
 -- the bytes up to start are fed, and the next piece: those up to its end are
-piece-fed : (at mid next : Session) (s bytes s₁ t : List ℕ) (start end : ℕ) → start < end → end ≤ length bytes → FedBytewise at s (take start bytes) mid s₁
+piece-fed : (at mid next : Session) (s bytes s₁ t : List ℕ) (start end : ℕ) → start < end → end ≤ length bytes → FedIfAny at s (take start bytes) mid s₁
     → Fed mid s₁ (take (end - start) (drop start bytes)) next t
-    → FedBytewise at s (take end bytes) next t
+    → FedIfAny at s (take end bytes) next t
 piece-fed at mid next s bytes s₁ t start end more fits f g =
     let size : start + (end - start) ≡ end = omega arith in
     let joined : take start bytes ++ take (end - start) (drop start bytes) ≡ take end bytes = sym (take-add start (end - start) bytes) ∙ ap (λ (n : ℕ). take n bytes) size in
@@ -79,7 +79,7 @@ piece-fed at mid next s bytes s₁ t start end more fits f g =
 pub record Feeding (start : Session) (s bytes : List ℕ) (at : ℕ) (mid : Session) (s₁ : List ℕ) : Type 0 where
   pub within : at ≤ length bytes
   pub len : length s₁ ≡ length s
-  pub fed-so-far : FedBytewise start s (take at bytes) mid s₁
+  pub fed-so-far : FedIfAny start s (take at bytes) mid s₁
 
 module _ (start : Session) (s bytes : List ℕ) where
   pub feeding-starts : Feeding start s bytes 0 start s
@@ -110,8 +110,8 @@ module _ (start : Session) (s bytes : List ℕ) where
         }
 
     -- none is left
-    pub bytes-end : length bytes ≤ at → FedBytewise start s bytes mid s₁
-    bytes-end all = subst (λ (x : List ℕ). FedBytewise start s x mid s₁) (take-all at bytes all) (r .fed-so-far)
+    pub bytes-end : length bytes ≤ at → FedIfAny start s bytes mid s₁
+    bytes-end all = subst (λ (x : List ℕ). FedIfAny start s x mid s₁) (take-all at bytes all) (r .fed-so-far)
 
     pub pieces-end : (length bytes ≡ 0 → ⊥) → length bytes ≤ at → Fed start s bytes mid s₁
     pieces-end some all = fed-some start mid s bytes s₁ (omega arith) (bytes-end all)

@@ -24,6 +24,6 @@ pub record Fed (at : Session) (s bytes : List ℕ) (next : Session) (t : List �
   pub cells : t ≡ writeCall (at .port) s bytes .screen
 
 -- the same, but that no bytes are no call, and nothing happens
-abbrev pub FedBytewise : Session → List ℕ → List ℕ → Session → List ℕ → Type 0
-FedBytewise at s [] next t = (next ≡ at) × (t ≡ s)
-FedBytewise at s (b ∷ bs) next t = Fed at s (b ∷ bs) next t
+abbrev pub FedIfAny : Session → List ℕ → List ℕ → Session → List ℕ → Type 0
+FedIfAny at s [] next t = (next ≡ at) × (t ≡ s)
+FedIfAny at s (b ∷ bs) next t = Fed at s (b ∷ bs) next t

@@ -74,7 +74,7 @@ pub fn feed_in_pieces(screen: &mut [u8], at: Session, bytes: &[u8], size: usize)
 
 // The bytes one after another by the one-byte call, which changes a port where it lies.
 pub fn feed_bytewise(screen: &mut [u8], at: Session, bytes: &[u8]) -> Session
-    ensures { λ r. ⌜ rules.FedBytewise at (now (screen .entry)) (now (bytes .entry)) r (now (screen .exit)) ⌝ }
+    ensures { λ r. ⌜ rules.FedIfAny at (now (screen .entry)) (now (bytes .entry)) r (now (screen .exit)) ⌝ }
 {
     let mut now = at;
     for i in 0..bytes.len() {

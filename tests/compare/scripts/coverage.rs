@@ -27,7 +27,7 @@ impl Coverage {
         let mut model = Model::new(run.screen.clone());
         let mut before = None;
         let mut returned = None;
-        for call in run.made() {
+        for call in run.served() {
             let multiplexer = model.multiplexer;
             let applying = refusals(call, &multiplexer, run.screen.len());
             let (status, block) = model.make(call);

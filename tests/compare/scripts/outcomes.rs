@@ -10,7 +10,7 @@ pub fn difference(run: &Run, wanted: &Outcome, given: &Outcome) -> Option<String
         return None;
     }
     let mut start = 0;
-    for (place, call) in run.made().iter().enumerate() {
+    for (place, call) in run.served().iter().enumerate() {
         let end = start + run.answer_length(call);
         let faults = if given.length < end {
             vec![format!("it is not answered: {} bytes of answers came back", given.length)]

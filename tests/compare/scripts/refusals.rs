@@ -49,8 +49,8 @@ pub fn refusals(call: &Call, multiplexer: &Multiplexer, screen_length: usize) ->
 
 /// Too short for the viewport; without a port, for any viewport.
 fn too_short(block: &[u8], port: Option<&Port>) -> bool {
-    let least = port.map_or((2, 2), |port| dimensions(port.state.viewport));
-    block.len() < length(least)
+    let smallest = port.map_or((2, 2), |port| dimensions(port.state.viewport));
+    block.len() < length(smallest)
 }
 
 /// Not of the viewport's dimensions; without a port, of none that there are.

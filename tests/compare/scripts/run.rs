@@ -48,7 +48,7 @@ impl Run {
 
     /// The calls that are made: those before the first whose answer does
     /// not fit.
-    pub fn made(&self) -> &[Call] {
+    pub fn served(&self) -> &[Call] {
         let mut room = self.room();
         for (place, call) in self.calls.iter().enumerate() {
             let length = self.answer_length(call);
@@ -63,8 +63,8 @@ impl Run {
     /// The reference has all the room that it needs, so it is handed only
     /// the calls that are to be made; the ending if these are all.
     pub fn by_reference(&self) -> Outcome {
-        let made = self.made();
-        let script = if made.len() < self.calls.len() { calls_script(made) } else { self.script() };
+        let served = self.served();
+        let script = if served.len() < self.calls.len() { calls_script(served) } else { self.script() };
         let mut screen = self.screen.clone();
         let mut answers = run_script(&script, &mut screen);
         let length = answers.len();

@@ -1,6 +1,6 @@
 -- `console::write_byte` meets its contract: refused before it starts, or the reply of `calls`. Assumes nothing.
 use borrow.Author.Needs.{needs}
-use Rattle.console.proofs.Replying.{acceptances, replies-refused, replies-made}
+use Rattle.console.proofs.Replying.{acceptances, replies-refused, replies-accepted}
 use Rattle.console.proofs.write_byte.Statement.{statement}
 use Rattle.console.proofs.write_byte.Tie as tie
 
@@ -26,7 +26,7 @@ same-length : tie.Need-same-length
 same-length c = search needs
 
 returns-2 : tie.Need-returns-2
-returns-2 c = search replies-made
+returns-2 c = search replies-accepted
 
 pub write-byte-spec : {M : Type 1} → statement M
 write-byte-spec =

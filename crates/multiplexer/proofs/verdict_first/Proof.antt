@@ -1,4 +1,4 @@
--- `multiplexer::verdict_first` meets its contract: one return for each judgement. Assumes nothing.
+-- `multiplexer::verdict_first` meets its contract: one return for each verdict. Assumes nothing.
 use borrow.Author.Needs.{needs}
 use Rattle.multiplexer.proofs.Chains.{verdicts}
 use Rattle.multiplexer.proofs.verdict_first.Statement.{statement}

@@ -31,7 +31,7 @@ returns : tie.Need-returns
 returns c =
     let first = c .before .cell-index .ensures in
     record {
-      block = refl;
+      allocation = refl;
       place = ap (λ (n : ℕ). n + c .before .before .before .args .screen .ptr .1) first;
       bytes = part-from (now (c .before .before .before .args .screen)) (c .before .cell-index .result) _ (c .before .before .before .args .count) first;
     }

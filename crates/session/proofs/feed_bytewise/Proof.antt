@@ -1,4 +1,4 @@
--- `session::feed_bytewise` meets its contract: each turn hands over the next byte. Assumes nothing.
+-- `session::feed_bytewise` meets its contract: each turn feeds the next byte. Assumes nothing.
 use Prim.Native.Nat.{_-_}
 use mathlib.Core.Path.{_≡_}
 use native.Mathlib.Omega.{arith}

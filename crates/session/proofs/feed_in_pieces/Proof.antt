@@ -1,4 +1,4 @@
--- `session::feed_in_pieces` meets its contract: each turn hands over at least one byte, and the parts lie in the lent bytes. Assumes nothing.
+-- `session::feed_in_pieces` meets its contract: each turn feeds at least one byte, and the parts lie in the lent bytes. Assumes nothing.
 use Prim.Native.Nat.{_-_}
 use lib.ListN.{length}
 use borrow.Author.Needs.{needs}

@@ -1,4 +1,4 @@
--- `view::move_cells` meets its contract: the fill is what `fill_byte` promises. Assumes nothing.
+-- `view::move_edit` meets its contract: the fill is what `fill_byte` promises. Assumes nothing.
 use borrow.Author.Needs.{needs}
 use Rattle.view.proofs.move_edit.Statement.{statement}
 use Rattle.view.proofs.move_edit.Tie as tie

@@ -1,4 +1,4 @@
--- `view::erase::clear_line` meets its contract: it makes the one edit that `erased` promises. Assumes nothing.
+-- `view::erase::clear_line` meets its contract: it makes the one edit that `erase_edit` promises. Assumes nothing.
 use borrow.Author.Needs.{needs}
 use Rattle.view.proofs.Plans.{plans}
 use Rattle.view.proofs.erase.clear_line.Statement.{statement}

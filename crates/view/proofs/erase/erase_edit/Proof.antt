@@ -1,4 +1,4 @@
--- `view::erase::erased` meets its contract: the fill is what `fill_byte` promises. Assumes nothing.
+-- `view::erase::erase_edit` meets its contract: the fill is what `fill_byte` promises. Assumes nothing.
 use borrow.Author.Needs.{needs}
 use Rattle.view.proofs.erase.erase_edit.Statement.{statement}
 use Rattle.view.proofs.erase.erase_edit.Tie as tie

@@ -1,4 +1,4 @@
--- `view::place::nearest` meets its contract: what `least` and `greatest` promise is the definition. Assumes nothing.
+-- `view::place::nearest_inside` meets its contract: what `min` and `max` promise is the definition. Assumes nothing.
 use native.Mathlib.Omega.{arith}
 use borrow.Author.Needs.{needs}
 use Rattle.port.specs.Codes.{nearestInside}

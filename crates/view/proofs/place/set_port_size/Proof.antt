@@ -1,4 +1,4 @@
--- `view::place::set_port_size` meets its contract: `nearest` may be asked, since all four parameters are in range there.
+-- `view::place::set_port_size` meets its contract: `nearest_inside` may be asked, since all four parameters are in range there.
 -- What `resize` is given is the definition's rectangle. Assumes nothing.
 use borrow.Author.Needs.{needs}
 use Rattle.laws.proofs.Choices.{choices}

@@ -10,7 +10,6 @@ use Rattle.laws.proofs.Lists.{alone-taken}
 use Rattle.port.specs.declared.Port.{Port}
 use Rattle.reply.specs.declared.Status.{Status}
 use Rattle.reply.specs.Reply.{Replies}
-use Rattle.reply.specs.Laws.{SameCut}
 use Rattle.calls.specs.declared.Answer.{Answer}
 use Rattle.calls.specs.Calls.{PortReply}
 use Rattle.console.specs.Calls.{writeCall}
@@ -37,17 +36,21 @@ module _ (at mid next : Session) (s a s₁ b t : List ℕ) where
   abbrev both : PortReply
   both = writeCall (at .port) s (a ++ b)
 
+  -- the bells of the first write, and then some more
+  bells-more : Fed at s a mid s₁ → (n : ℕ) → (mid .bells + n) % 2 ^ 64 ≡ (at .bells + (one .result + n)) % 2 ^ 64
+  bells-more f n =
+      ap (λ (x : Session). (x .bells + n) % 2 ^ 64) (f .session) ∙ mod-add-mod (at .bells + one .result) (2 ^ 64) n ∙ ap (λ (k : ℕ). k % 2 ^ 64) (add-assoc (at .bells) (one .result) n)
+
   fed-both : Fed at s a mid s₁ → Fed mid s₁ b next t → Fed at s (a ++ b) next t
   fed-both f g =
       let cut = write-cut (at .port) s a b in
       let w : PortReply = writeCall (mid .port) s₁ b in
       let is : w ≡ two = rw (ap (λ (x : Session). x .port) (f .session), f .cells) in
-      let bells : (mid .bells + w .result) % 2 ^ 64 ≡ (at .bells + both .result) % 2 ^ 64 =
-      ap (λ (n : ℕ). (n + w .result) % 2 ^ 64) (ap (λ (x : Session). x .bells) (f .session)) ∙ ap (λ (r : PortReply). ((at .bells + one .result) % 2 ^ 64 + r .result) % 2 ^ 64) is
-      ∙ mod-add-mod (at .bells + one .result) (2 ^ 64) (two .result)
-      ∙ ap (λ (n : ℕ). n % 2 ^ 64) (add-assoc (at .bells) (one .result) (two .result) ∙ ap (λ (n : ℕ). at .bells + n) (cut .count)) in
+      let counts = ap (λ (r : PortReply). one .result + r .result) is ∙ cut .count in
       record {
-        session = g .session ∙ same-after (ap (λ (r : PortReply). r .status) is ∙ cut .second-status) (ap (λ (r : PortReply). r .state) is ∙ cut .state) bells;
+        session = g .session
+            ∙ same-after (ap (λ (r : PortReply). r .status) is ∙ cut .second-status) (ap (λ (r : PortReply). r .state) is ∙ cut .state)
+            (bells-more f (w .result) ∙ ap (λ (n : ℕ). (at .bells + n) % 2 ^ 64) counts);
         cells = g .cells ∙ ap (λ (r : PortReply). r .screen) is ∙ cut .screen;
       }
 
@@ -65,53 +68,46 @@ fed-some : (at next : Session) (s bytes t : List ℕ) → 0 < length bytes → F
 fed-some at next s [] t some f = absurd (omega arith)
 fed-some at next s (b ∷ bs) t some f = f
 
--- the bytes up to start are fed, and the next piece: those up to its end are
-piece-fed : (at mid next : Session) (s bytes s₁ t : List ℕ) (start end : ℕ) → start < end → end ≤ length bytes → FedIfAny at s (take start bytes) mid s₁
-    → Fed mid s₁ (take (end - start) (drop start bytes)) next t
-    → FedIfAny at s (take end bytes) next t
-piece-fed at mid next s bytes s₁ t start end more fits f g =
-    let size : start + (end - start) ≡ end = omega arith in
-    let joined : take start bytes ++ take (end - start) (drop start bytes) ≡ take end bytes = sym (take-add start (end - start) bytes) ∙ ap (λ (n : ℕ). take n bytes) size in
-    some-fed at next s (take end bytes) t (let k = length-take-le end bytes fits in omega arith)
-    (subst (λ (x : List ℕ). Fed at s x next t) joined (fed-next at mid next s (take start bytes) s₁ (take (end - start) (drop start bytes)) t f g))
+-- the bytes up to place i are fed, and a piece of n bytes after them: those up to its end are
+piece-fed : (at mid next : Session) (s bytes s₁ t : List ℕ) (i n : ℕ) → 0 < n → i + n ≤ length bytes → FedIfAny at s (take i bytes) mid s₁ → Fed mid s₁ (take n (drop i bytes)) next t
+    → FedIfAny at s (take (i + n) bytes) next t
+piece-fed at mid next s bytes s₁ t i n some fits f g =
+    some-fed at next s (take (i + n) bytes) t (let k = length-take-le (i + n) bytes fits in omega arith)
+    (subst (λ (x : List ℕ). Fed at s x next t) (sym (take-add i n bytes)) (fed-next at mid next s (take i bytes) s₁ (take n (drop i bytes)) t f g))
 
--- ---- the loops: the bytes up to place at of bytes are fed, and the session is now mid, on the cells s₁
-pub record Feeding (start : Session) (s bytes : List ℕ) (at : ℕ) (mid : Session) (s₁ : List ℕ) : Type 0 where
-  pub within : at ≤ length bytes
+-- ---- the loops: of bytes those up to place i are fed, and the session that was at is mid, on the cells s₁
+pub record Feeding (at : Session) (s bytes : List ℕ) (i : ℕ) (mid : Session) (s₁ : List ℕ) : Type 0 where
+  pub within : i ≤ length bytes
   pub len : length s₁ ≡ length s
-  pub fed-so-far : FedIfAny start s (take at bytes) mid s₁
+  pub fed-so-far : FedIfAny at s (take i bytes) mid s₁
 
-module _ (start : Session) (s bytes : List ℕ) where
-  pub feeding-starts : Feeding start s bytes 0 start s
+module _ (at : Session) (s bytes : List ℕ) where
+  pub feeding-starts : Feeding at s bytes 0 at s
   feeding-starts = record { within = omega arith; len = refl; fed-so-far = (refl, refl) }
 
-  module _ {at : ℕ} {mid : Session} {s₁ : List ℕ} (r : Feeding start s bytes at mid s₁) where
-    -- a piece more, and a byte more
-    pub piece-more : (size n : ℕ) (next : Session) (t : List ℕ) → at < length bytes → 0 < size → n ≡ min size (length bytes - at) → length t ≡ length s₁
-        → Fed mid s₁ (take (at + n - at) (drop at bytes)) next t
-        → Feeding start s bytes (at + n) next t
-    piece-more size n next t more some is len f = record {
-      within = omega arith;
-      len = len ∙ r .len;
-      fed-so-far = piece-fed start mid next s bytes s₁ t at (at + n) (omega arith) (omega arith) (r .fed-so-far) f;
-    }
+  module _ {i : ℕ} {mid : Session} {s₁ : List ℕ} (r : Feeding at s bytes i mid s₁) where
+    more-fed : (n : ℕ) (next : Session) (t : List ℕ) → 0 < n → i + n ≤ length bytes → length t ≡ length s₁ → Fed mid s₁ (take n (drop i bytes)) next t → Feeding at s bytes (i + n) next t
+    more-fed n next t some fits len f = record { within = fits; len = len ∙ r .len; fed-so-far = piece-fed at mid next s bytes s₁ t i n some fits (r .fed-so-far) f }
 
-    pub byte-more : (a : Answer) (next : Session) (t : List ℕ) → at < length bytes → length t ≡ length s₁
-        → Replies (writeCall (mid .port) s₁ (getD bytes at 0 ∷ [])) (a .status) (a .port) (a .count) t (getD bytes at 0 ∷ []) → next ≡ after mid (a .status) (a .port) (a .count)
-        → Feeding start s bytes (at + 1) next t
+    -- a piece more; the code names it by its start and its end
+    pub piece-more : (size n : ℕ) (next : Session) (t : List ℕ) → i < length bytes → 0 < size → n ≡ min size (length bytes - i) → length t ≡ length s₁
+        → Fed mid s₁ (take (i + n - i) (drop i bytes)) next t
+        → Feeding at s bytes (i + n) next t
+    piece-more size n next t more some is len f =
+        let same : i + n - i ≡ n = omega arith in
+        more-fed n next t (omega arith) (omega arith) len (subst (λ (k : ℕ). Fed mid s₁ (take k (drop i bytes)) next t) same f)
+
+    -- a byte more
+    pub byte-more : (a : Answer) (next : Session) (t : List ℕ) → i < length bytes → length t ≡ length s₁
+        → Replies (writeCall (mid .port) s₁ (getD bytes i 0 ∷ [])) (a .status) (a .port) (a .count) t (getD bytes i 0 ∷ []) → next ≡ after mid (a .status) (a .port) (a .count)
+        → Feeding at s bytes (i + 1) next t
     byte-more a next t more len h e =
-        let size : at + 1 - at ≡ 1 = omega arith in
-        let f = fed mid next s₁ (getD bytes at 0 ∷ []) t a h e in
-        record {
-          within = omega arith;
-          len = len ∙ r .len;
-          fed-so-far = piece-fed start mid next s bytes s₁ t at (at + 1) (omega arith) (omega arith) (r .fed-so-far)
-              (subst (λ (x : List ℕ). Fed mid s₁ x next t) (sym (alone-taken bytes at more) ∙ ap (λ (n : ℕ). take n (drop at bytes)) (sym size)) f);
-        }
+        more-fed 1 next t (omega arith) (omega arith) len
+        (subst (λ (x : List ℕ). Fed mid s₁ x next t) (sym (alone-taken bytes i more)) (fed mid next s₁ (getD bytes i 0 ∷ []) t a h e))
 
     -- none is left
-    pub bytes-end : length bytes ≤ at → FedIfAny start s bytes mid s₁
-    bytes-end all = subst (λ (x : List ℕ). FedIfAny start s x mid s₁) (take-all at bytes all) (r .fed-so-far)
+    pub bytes-end : length bytes ≤ i → FedIfAny at s bytes mid s₁
+    bytes-end all = subst (λ (x : List ℕ). FedIfAny at s x mid s₁) (take-all i bytes all) (r .fed-so-far)
 
-    pub pieces-end : (length bytes ≡ 0 → ⊥) → length bytes ≤ at → Fed start s bytes mid s₁
-    pieces-end some all = fed-some start mid s bytes s₁ (omega arith) (bytes-end all)
+    pub pieces-end : (length bytes ≡ 0 → ⊥) → length bytes ≤ i → Fed at s bytes mid s₁
+    pieces-end some all = fed-some at mid s bytes s₁ (omega arith) (bytes-end all)

@@ -196,7 +196,7 @@ module _ {p₀ : Port} {bs s₀ : List ℕ} {i : ℕ} {p : Port} {rung : ℕ} {s
       subst (λ (x : ℕ). Executed (stream p₀ bs) p x s₀ s) (add-zero rung)
       (r .rest p 0 s (subst (λ (x : List ℕ). Executed (stream p x) p 0 s s) (sym none) (nothing-executed p s)))
 
--- ---- the three ways through the loop, from a port whose active part is executed apart
+-- ---- the three ways through the loop, from a port whose active part is carried apart
 module _ {p₀ : Port} {bs s₀ : List ℕ} {i : ℕ} (p : Port) (a : Active) {rung : ℕ} {s : List ℕ} (r : Streaming p₀ bs s₀ i (withActive p a) rung s) where
   silent : (q : Port) (n : ℕ) (t : List ℕ) → i + n ≤ length bs → Executed (stream (withActive p a) (take n (drop i bs))) q 0 s t → Streaming p₀ bs s₀ (i + n) q rung t
   silent q n t inside d = subst (λ (x : ℕ). Streaming p₀ bs s₀ (i + n) q x t) (add-zero rung) (streaming-on r q n 0 t inside (omega arith) d)

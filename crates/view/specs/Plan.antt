@@ -24,3 +24,7 @@ still v = record { view = v; change = Nothing }
 
 abbrev pub once : View → Edit → Moved
 once v e = record { view = v; change = Draw e }
+
+-- an edit, and perhaps another after it
+abbrev pub plan : View → Edit → Change → ViewPlan
+plan v e next = record { view = v; first = Draw e; second = next }

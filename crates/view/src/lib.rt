@@ -15,7 +15,7 @@ ghost use mathlib.Core.Path.{_≡_};
 ghost use Prim.Native.Nat.{min};
 ghost use Rattle.port.specs.Effect.{fillByte, moveEdit};
 ghost use Rattle.port.specs.Codes.{modeOf, setNormal, setInverse, enableMouseText, disableMouseText, setCursorMovement, scrollDown, scrollUp};
-ghost use Rattle.view.specs.Plan.{effectOf, still, once};
+ghost use Rattle.view.specs.Plan.{effectOf, still, once, plan};
 ghost use Rattle.view.specs.Place.{spaceCount};
 
 // At most one edit.
@@ -52,6 +52,17 @@ pub fn once(view: View, edit: Edit) -> Moved
     Moved {
         view,
         change: Change::Draw(edit),
+    }
+}
+
+// An edit, and perhaps another after it.
+pub fn plan(view: View, first: Edit, second: Change) -> ViewPlan
+    ensures { λ r. ⌜ r ≡ plan view first second ⌝ }
+{
+    ViewPlan {
+        view,
+        first: Change::Draw(first),
+        second,
     }
 }
 

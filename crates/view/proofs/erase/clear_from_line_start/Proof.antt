@@ -4,6 +4,9 @@ use Rattle.view.proofs.Plans.{plans}
 use Rattle.view.proofs.erase.clear_from_line_start.Statement.{statement}
 use Rattle.view.proofs.erase.clear_from_line_start.Tie as tie
 
+line-span-requires : tie.Need-line-span-requires
+line-span-requires c κs = search needs
+
 erase-edit-requires : tie.Need-erase-edit-requires
 erase-edit-requires c κs = search needs
 
@@ -14,4 +17,4 @@ returns : tie.Need-returns
 returns c = search plans
 
 pub clear-from-line-start-spec : {M : Type 1} → statement M
-clear-from-line-start-spec = tie.close (tie.spec erase-edit-requires once-requires returns)
+clear-from-line-start-spec = tie.close (tie.spec line-span-requires erase-edit-requires once-requires returns)

@@ -1,2 +1,3 @@
--- Where the calls of a script lie.
+-- `Script`: where the calls of a script lie. `Stream`: what a run of a stream answers.
 pub mod Script
+pub mod Stream

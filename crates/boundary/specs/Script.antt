@@ -1,4 +1,4 @@
--- Where a call lies in a script: this is all that the boundary's own contracts say. Assumes nothing.
+-- Where a call lies in a script: all that is said of a script. Assumes nothing.
 use Prim.Native.Nat.{ℕ, _+_, _≤_, _<_}
 use Rattle.boundary.specs.declared.script.Call.{Call}
 use Rattle.boundary.specs.declared.script.Parsed.{Parsed}

@@ -26,6 +26,7 @@ ghost use Prim.Native.Nat.{_+_, _≤_, _<_, min};
 ghost use mathlib.Core.Path.{_≡_};
 ghost use lib.ListN.{length};
 ghost use Rattle.boundary.specs.Script.{Lies};
+ghost use Rattle.boundary.specs.Stream.{streamRun, bytewiseRun, Runs};
 
 // One call. lent is a block return's block, and arguments are the bytes of the others.
 fn dispatch(
@@ -145,7 +146,9 @@ pub extern "C" fn combthrift_run_stream(
     size: usize,
     screen: &mut [u8],
     answer: &mut [u8],
-) -> usize {
+) -> usize
+    ensures { λ r. ⌜ Runs (streamRun (now (bytes .entry)) size (now (screen .entry)) (now (answer .entry))) r (now (screen .exit)) (now (answer .exit)) ⌝ }
+{
     if size == 0 {
         return 0;
     }
@@ -159,11 +162,9 @@ pub extern "C" fn combthrift_run_stream(
 // Hands a stream to a fresh plain console, byte after byte by the one-byte call.
 // The result is the length of the answer (`put_end`), or 0, with nothing done, where there is no room for it.
 #[no_mangle]
-pub extern "C" fn combthrift_put_bytes(
-    bytes: &[u8],
-    screen: &mut [u8],
-    answer: &mut [u8],
-) -> usize {
+pub extern "C" fn combthrift_put_bytes(bytes: &[u8], screen: &mut [u8], answer: &mut [u8]) -> usize
+    ensures { λ r. ⌜ Runs (bytewiseRun (now (bytes .entry)) (now (screen .entry)) (now (answer .entry))) r (now (screen .exit)) (now (answer .exit)) ⌝ }
+{
     if answer.len() < 7 {
         return 0;
     }

@@ -16,11 +16,15 @@ freshSession = record { port = freshConsole; bells = 0; status = Done }
 abbrev pub after : Session → Status → Port → ℕ → Session
 after at status port count = record { port = port; bells = (at .bells + count) % 2 ^ 64; status = status }
 
+-- .. after a plain write on the cells s
+abbrev pub afterWrite : Session → List ℕ → List ℕ → Session
+afterWrite at s bytes =
+    let w : PortReply = writeCall (at .port) s bytes in
+    after at (w .status) (w .state) (w .result)
+
 -- bytes were fed in one plain write: the session became next, and the cells s became t
 pub record Fed (at : Session) (s bytes : List ℕ) (next : Session) (t : List ℕ) : Type 0 where
-  pub session :
-      let w : PortReply = writeCall (at .port) s bytes in
-      next ≡ after at (w .status) (w .state) (w .result)
+  pub session : next ≡ afterWrite at s bytes
   pub cells : t ≡ writeCall (at .port) s bytes .screen
 
 -- the same, but that no bytes are no call, and nothing happens

@@ -1,0 +1,53 @@
+-- The text in front of a buffer, and a text laid over it. Assumes nothing.
+use Prim.Native.Nat.{ℕ, zero, suc, _+_, _-_, _≤_, _<_}
+use mathlib.Core.Path.{_≡_, refl, sym, ap, _∙_}
+use mathlib.Core.List.{List, [], _∷_, _++_}
+use native.Mathlib.Numerals.{add-one, unary-clauses}
+use native.Mathlib.Omega.{arith}
+use lib.ListN.{length, take, drop, length-append, length-drop, take-append-drop}
+use lib.Seq.{length-take-le, take-nil, drop-nil, take-take, take-length, take-at, length-paste-head, paste}
+use Rattle.editing.specs.Keys.{inserted, removed}
+use Rattle.editing.specs.Buffer.{laid}
+
+-- a part of a front
+pub drop-take : (n m : ℕ) (b : List ℕ) → drop n (take m b) ≡ take (m - n) (drop n b)
+drop-take zero m b = simp unary-clauses
+drop-take (suc n) zero b = let none : zero - suc n ≡ zero = omega arith in rw none
+drop-take (suc n) (suc m) [] = simp (take-nil, drop-nil)
+drop-take (suc n) (suc m) (x ∷ b) = simp unary-clauses (drop-take n m b)
+
+-- a front of the buffer, laid over it, is there already
+pub laid-front : (n : ℕ) (b : List ℕ) → n ≤ length b → laid (take n b) b ≡ b
+unfolding laid
+laid-front n b h = rw (length-take-le n b h) (take-append-drop n b)
+
+pub length-laid : (text b : List ℕ) → length text ≤ length b → length (laid text b) ≡ length b
+unfolding laid
+length-laid text b h = simp (length-append, length-drop) (omega arith)
+
+-- the text is in front of what it is laid over
+pub take-laid : (text b : List ℕ) → take (length text) (laid text b) ≡ text
+unfolding laid
+take-laid text b = take-at text (drop (length text) b) (length text) refl
+
+-- a copy of it in front of the buffer is the text laid over it
+pub copied-laid : (text b b′ : List ℕ) → b′ ≡ take (length text) text ++ drop (length text) b → b′ ≡ laid text b
+unfolding laid
+copied-laid text b b′ e = e ∙ rw (take-length text)
+
+-- what a loop pastes from place at on is the text's end
+pub pasted-laid : (b text s : List ℕ) (at n : ℕ) → at ≤ length b → n ≤ length s → text ≡ take at b ++ take n s → paste b at s n ≡ laid text b
+unfolding laid
+pasted-laid b text s at n le ge e = rw (e, length-paste-head b at s n le ge)
+
+module _ (b : List ℕ) (size at : ℕ) (within : size ≤ length b) where
+  pub inserted-front : (byte : ℕ) → at ≤ size → inserted at byte (take size b) ≡ take at b ++ take (size + 1 - at) (byte ∷ drop at b)
+  inserted-front byte h =
+      let n : size + 1 - at ≡ suc (size - at) = omega arith in
+      rw (n, take-take at size b h, drop-take at size b)
+
+  pub removed-front : at < size → removed at (take size b) ≡ take at b ++ take (size - 1 - at) (drop (at + 1) b)
+  removed-front h =
+      let le : at ≤ size = omega arith in
+      let n : size - (at + 1) ≡ size - 1 - at = omega arith in
+      rw (take-take at size b le, drop-take (at + 1) size b, n)

@@ -1,0 +1,54 @@
+-- `editing::keys::insert` meets its contract: a printing key is beeped or put in. Assumes nothing.
+use borrow.Author.Needs.{needs}
+use Rattle.editing.proofs.Pressing.{insert-full, insert-at-width, insert-done, in-buffer}
+use Rattle.editing.proofs.keys.insert.Statement.{statement}
+use Rattle.editing.proofs.keys.insert.Tie as tie
+
+add-if1 : tie.Need-add-if1
+add-if1 c = search needs
+
+beeped-requires : tie.Need-beeped-requires
+beeped-requires c κs = search needs
+
+returns : tie.Need-returns
+returns c = search (insert-full, in-buffer)
+
+beeped-requires-2 : tie.Need-beeped-requires-2
+beeped-requires-2 c κs = search needs
+
+returns-2 : tie.Need-returns-2
+returns-2 c = search (insert-at-width, in-buffer)
+
+insert-byte-requires : tie.Need-insert-byte-requires
+insert-byte-requires c κs = search needs
+
+add-edited : tie.Need-add-edited
+add-edited c = search needs
+
+add-edited-2 : tie.Need-add-edited-2
+add-edited-2 c = search needs
+
+edited-requires : tie.Need-edited-requires
+edited-requires c κs = search needs
+
+same-length : tie.Need-same-length
+same-length c = search needs
+
+returns-3 : tie.Need-returns-3
+returns-3 c = search (insert-done, in-buffer)
+
+pub insert-spec : {M : Type 1} → statement M
+insert-spec =
+    tie.close
+    (tie.spec
+    add-if1
+    beeped-requires
+    returns
+    beeped-requires-2
+    returns-2
+    insert-byte-requires
+    add-edited
+    add-edited-2
+    edited-requires
+    same-length
+    returns-3)

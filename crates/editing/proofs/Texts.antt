@@ -6,8 +6,9 @@ use native.Mathlib.Numerals.{add-one, unary-clauses}
 use native.Mathlib.Omega.{arith}
 use lib.ListN.{length, take, drop, length-append, length-drop, take-append-drop}
 use lib.Seq.{length-take-le, take-nil, drop-nil, take-take, take-length, take-at, length-paste-head, paste}
-use Rattle.editing.specs.Keys.{inserted, removed}
-use Rattle.editing.specs.Buffer.{laid}
+use Rattle.editing.specs.declared.State.{State}
+use Rattle.editing.specs.Keys.{Content, inserted, removed}
+use Rattle.editing.specs.Buffer.{laid, contentOf, stateOf}
 
 -- a part of a front
 pub drop-take : (n m : ℕ) (b : List ℕ) → drop n (take m b) ≡ take (m - n) (drop n b)
@@ -29,6 +30,13 @@ length-laid text b h = simp (length-append, length-drop) (omega arith)
 pub take-laid : (text b : List ℕ) → take (length text) (laid text b) ≡ text
 unfolding laid
 take-laid text b = take-at text (drop (length text) b) (length text) refl
+
+-- from a state to its text and back, and from a text that was laid over the buffer
+pub state-content : (state : State) (b : List ℕ) → state .length ≤ length b → stateOf (contentOf state b) ≡ state
+state-content state b h = rw (length-take-le (state .length) b h)
+
+pub content-laid : (c : Content) (b : List ℕ) → contentOf (stateOf c) (laid (c .text) b) ≡ c
+content-laid c b = rw (take-laid (c .text) b)
 
 -- a copy of it in front of the buffer is the text laid over it
 pub copied-laid : (text b b′ : List ℕ) → b′ ≡ take (length text) text ++ drop (length text) b → b′ ≡ laid text b

@@ -1,0 +1,72 @@
+-- Each way through a call. Assumes nothing.
+use Prim.Native.Nat.{ℕ, _≤_}
+use mathlib.Core.Path.{_≡_, refl, sym, ap, _∙_}
+use mathlib.Core.List.{List}
+use native.Mathlib.Omega.{arith}
+use lib.ListN.{length}
+use lib.Seq.{take-length}
+use denote.Ref.{RefT}
+use Rattle.laws.specs.Parts.{stretch, noStretch, IsPart}
+use Rattle.editing.specs.declared.State.{State}
+use Rattle.editing.specs.Keys.{startContent}
+use Rattle.editing.specs.Buffer.{laid, stateOf, settings, contentOf}
+use Rattle.field.specs.declared.Status.{Status}
+use Rattle.field.specs.declared.Status.the-variants.{Done}
+use Rattle.field.specs.declared.Ending.{Ending}
+use Rattle.field.specs.declared.Ending.the-variants.{None, Return, Escape}
+use Rattle.field.specs.declared.Started.{Started}
+use Rattle.field.specs.declared.Answer.{Answer}
+use Rattle.field.specs.declared.verdict.Verdict.{Verdict}
+use Rattle.field.specs.declared.verdict.Verdict.the-variants.{Accepted, Refused}
+use Rattle.field.specs.Verdict.{startVerdict, keysVerdict, onVerdict}
+use Rattle.field.specs.Typing.{typeKeys}
+use Rattle.field.specs.Calls.{Reply, Replies, answerOf, startRefused, started, startCall, keysRefused, keysTyped, keysCall, textBy, textCall, IsText}
+
+module _ (width maximum : ℕ) (default b : List ℕ) (v : Verdict) where
+  pub start-refuses : (r : Started) (status : Status) → v ≡ startVerdict width maximum (length default) (length b) → v ≡ Refused status → r ≡ startRefused status b .answer
+      → Replies (startCall width maximum default b) r b
+  unfolding startCall onVerdict
+  start-refuses r status is e made = rw (sym is ∙ e) (record { answer-is = made; bytes = refl })
+
+  pub start-makes : (r : Started) (s : State) (b′ : List ℕ) → v ≡ startVerdict width maximum (length default) (length b) → v ≡ Accepted → s ≡ stateOf (startContent width default) → b′ ≡ laid default b
+      → r ≡ record { status = Done; state = s }
+      → Replies (startCall width maximum default b) r b′
+  unfolding startCall onVerdict
+  start-makes r s b′ is e state bytes made = rw (sym is ∙ e) (record { answer-is = made ∙ rw state; bytes = bytes })
+
+  module _ (state : State) (keys : List ℕ) where
+    pub keys-refuses : (r : Answer) (status : Status) → v ≡ keysVerdict width maximum (length default) (length b) state → v ≡ Refused status → r ≡ keysRefused status state b .answer
+        → Replies (keysCall width maximum default b state keys) r b
+    unfolding keysCall onVerdict
+    keys-refuses r status is e made = rw (sym is ∙ e) (record { answer-is = made; bytes = refl })
+
+    pub keys-makes : (r : Answer) (b′ : List ℕ) → v ≡ keysVerdict width maximum (length default) (length b) state → v ≡ Accepted
+        → Replies (keysTyped (typeKeys (settings width maximum default) (contentOf state b) b keys)) r b′
+        → Replies (keysCall width maximum default b state keys) r b′
+    unfolding keysCall onVerdict
+    keys-makes r b′ is e made = rw (sym is ∙ e) made
+
+-- a lent text is the whole of itself
+pub whole-part : (x : RefT (List ℕ)) → IsPart x x (stretch 0 (length (x .now)))
+whole-part x = record { allocation = refl; place = omega arith; bytes = sym (take-length (x .now)) }
+
+module _ (width maximum : ℕ) (buffer default r : RefT (List ℕ)) (v : Verdict) (state : State) (ending : Ending)
+    (is : v ≡ keysVerdict width maximum (length (default .now)) (length (buffer .now)) state) where
+  abbrev Given : Type 0
+  Given = IsText (textCall width maximum state ending (length (buffer .now)) (length (default .now))) buffer default r
+
+  pub text-refuses : (status : Status) → v ≡ Refused status → IsPart buffer r noStretch → Given
+  unfolding textCall onVerdict
+  text-refuses status e part = rw (sym is ∙ e) part
+
+  pub text-none : v ≡ Accepted → ending ≡ None → IsPart buffer r noStretch → Given
+  unfolding textCall onVerdict
+  text-none e end part = rw (sym is ∙ e, end) part
+
+  pub text-typed : v ≡ Accepted → ending ≡ Return → IsPart buffer r (stretch 0 (state .length)) → Given
+  unfolding textCall onVerdict
+  text-typed e end part = rw (sym is ∙ e, end) part
+
+  pub text-default : v ≡ Accepted → ending ≡ Escape → r ≡ default → Given
+  unfolding textCall onVerdict
+  text-default e end itself = rw (sym is ∙ e, end, itself) (whole-part default)

@@ -11,7 +11,10 @@ use Rattle.rectangle.specs.declared.Rect.{Rect}
 use Rattle.rectangle.proofs.Rectangles.{decides-legal}
 use Rattle.block.specs.Block.{blockLength, blockFits}
 use Rattle.reply.specs.declared.Status.{Status}
-use Rattle.reply.specs.declared.Status.the-variants.{ScreenLength, Invalid, ClientZero, PaneIllegal, ClientTaken, PaneShared, Full, NotOpen, BlockTooShort, BlockMismatch}
+use Rattle.reply.specs.declared.Status.the-variants.{Done, ScreenLength, Invalid, ClientZero, PaneIllegal, ClientTaken, PaneShared, Full, NotOpen, BlockTooShort, BlockMismatch}
+use Rattle.reply.specs.Answers.{Exactly}
+use Rattle.reply.proofs.Rules.{First, spared, refused-if, refused-unless, refused-not, answers-first}
+use Rattle.reply.proofs.Rules.First.{none, here, later}
 use Rattle.calls.specs.Calls.{PortReply, PortCall, written, blockReturned, blockRestored}
 use Rattle.slots.specs.declared.Multiplexer.{Multiplexer}
 use Rattle.slots.specs.State.{slotAt, Open, Free, Closed, slotOf}
@@ -22,9 +25,7 @@ use Rattle.multiplexer.specs.Located.{multiplexerVerdict, claimVerdict, freeSlo
 use Rattle.multiplexer.specs.Calls.{MultiplexerReply, onSlot, onClient, writeCall, returnCall, restoreCall, openedAt, openCall, closedAt, closeCall}
 use Rattle.multiplexer.proofs.Claims.{decides-pane-shared}
 use Rattle.multiplexer.proofs.Replying.{slotStatus, by-screen}
-use Rattle.client_calls.specs.Laws.{viewport, Fits, Applies, Exactly, Statuses, ValidStatuses, GoesTo, SlotStatuses}
-use Rattle.client_calls.proofs.Rules.{First, spared, refused-if, refused-unless, refused-not, answers-first}
-use Rattle.client_calls.proofs.Rules.First.{none, here, later}
+use Rattle.client_calls.specs.Laws.{viewport, Fits, Applies, Statuses, ValidStatuses, GoesTo, SlotStatuses}
 
 decides-fits : (r : Rect) (block : List ℕ) → Decides (blockFits r block) (Fits r block)
 unfolding blockFits
@@ -55,8 +56,8 @@ module _ (m : Multiplexer) (s : List ℕ) (n : ℕ) (r : Rect) (block : List ℕ
   -- ---- the five calls
   -- a call for an open client: 2, 8, and then what the reply at its slot gives
   client-first : (s′ block′ : List ℕ) (reply : ℕ → MultiplexerReply) {xs : List Status}
-      → (ValidMultiplexer m → (i : ℕ) → Open m i → slotAt m i .client ≡ n → First (Applies m s n r block) (reply i .status) xs)
-      → First (Applies m s n r block) (slotStatus m s′ block′ reply (clientSlot m n)) (Invalid ∷ NotOpen ∷ xs)
+      → (ValidMultiplexer m → (i : ℕ) → Open m i → slotAt m i .client ≡ n → First Done (Applies m s n r block) (reply i .status) xs)
+      → First Done (Applies m s n r block) (slotStatus m s′ block′ reply (clientSlot m n)) (Invalid ∷ NotOpen ∷ xs)
   unfolding multiplexerVerdict openSlot verdictFirst onSlot
   client-first s′ block′ reply rest =
       refused-unless (λ j. slotStatus m s′ block′ reply (verdictFirst j (openSlot m n))) (decides-multiplexer m) (λ k. k) (λ p k. k p) refl λ v.
@@ -64,35 +65,35 @@ module _ (m : Multiplexer) (s : List ℕ) (n : ℕ) (r : Rect) (block : List ℕ
       rw (slot-open m v (k .0) n (k .1) (k .2)) (rest v (k .0) (k .1) (k .2))
 
   -- a call on a client's port that takes a screen: 1 before the rest, and after it what the call on the port gives
-  call-first : (call : PortCall) {xs : List Status} → ((i : ℕ) → GoesTo m s n i → First (Applies m s n r block) (call (slotAt m i .port) s block .status) xs)
-      → First (Applies m s n r block) (onClient call (locatedOn (length s) (clientSlot m n)) m s block .status) (ScreenLength ∷ Invalid ∷ NotOpen ∷ xs)
+  call-first : (call : PortCall) {xs : List Status} → ((i : ℕ) → GoesTo m s n i → First Done (Applies m s n r block) (call (slotAt m i .port) s block .status) xs)
+      → First Done (Applies m s n r block) (onClient call (locatedOn (length s) (clientSlot m n)) m s block .status) (ScreenLength ∷ Invalid ∷ NotOpen ∷ xs)
   call-first call {xs} rest =
-      by-screen m s block _ (λ x. First (Applies m s n r block) x (ScreenLength ∷ Invalid ∷ NotOpen ∷ xs)) (clientSlot m n) (λ no-screen. here no-screen refl)
+      by-screen m s block _ (λ x. First Done (Applies m s n r block) x (ScreenLength ∷ Invalid ∷ NotOpen ∷ xs)) (clientSlot m n) (λ no-screen. here no-screen refl)
       λ l. later (λ k. k l)
       (client-first s block _ λ v i o e. rest i (record { valid = v; len = l; is-open = o; client = e }))
 
-  write-first : First (Applies m s n r block) (writeCall m s n block .status) (ScreenLength ∷ Invalid ∷ NotOpen ∷ [])
+  write-first : First Done (Applies m s n r block) (writeCall m s n block .status) (ScreenLength ∷ Invalid ∷ NotOpen ∷ [])
   unfolding written
   write-first = call-first written (λ i g. none refl)
 
-  return-first : First (Applies m s n r block) (returnCall m s n block .status) (ScreenLength ∷ Invalid ∷ NotOpen ∷ BlockTooShort ∷ [])
+  return-first : First Done (Applies m s n r block) (returnCall m s n block .status) (ScreenLength ∷ Invalid ∷ NotOpen ∷ BlockTooShort ∷ [])
   unfolding blockReturned
   return-first =
       call-first blockReturned λ i g.
       refused-if port-replied (decides-as (decides-lt _ _) (λ h. (i, g .is-open, g .client, h)) (too-short i g)) refl λ _.
       none refl
 
-  restore-first : First (Applies m s n r block) (restoreCall m s n block .status) (ScreenLength ∷ Invalid ∷ NotOpen ∷ BlockMismatch ∷ [])
+  restore-first : First Done (Applies m s n r block) (restoreCall m s n block .status) (ScreenLength ∷ Invalid ∷ NotOpen ∷ BlockMismatch ∷ [])
   unfolding blockRestored
   restore-first =
       call-first blockRestored λ i g.
       refused-unless port-replied (decides-fits (viewport m i) block) (λ h. (i, g .is-open, g .client, h)) (λ h k. mismatched i g k h) refl λ _.
       none refl
 
-  close-first : First (Applies m s n r block) (closeCall m n .status) (Invalid ∷ NotOpen ∷ [])
+  close-first : First Done (Applies m s n r block) (closeCall m n .status) (Invalid ∷ NotOpen ∷ [])
   close-first = client-first [] [] (closedAt m) (λ v i o e. none refl)
 
-  claim-first : First (Applies m s n r block) (slotStatus m s [] (openedAt m s n r) (claimSlot m n r)) (Invalid ∷ ClientZero ∷ PaneIllegal ∷ ClientTaken ∷ PaneShared ∷ Full ∷ [])
+  claim-first : First Done (Applies m s n r block) (slotStatus m s [] (openedAt m s n r) (claimSlot m n r)) (Invalid ∷ ClientZero ∷ PaneIllegal ∷ ClientTaken ∷ PaneShared ∷ Full ∷ [])
   unfolding multiplexerVerdict claimVerdict freeSlotFor verdictFirst onSlot
   claim-first =
       let given = slotStatus m s [] (openedAt m s n r) in
@@ -104,32 +105,32 @@ module _ (m : Multiplexer) (s : List ℕ) (n : ℕ) (r : Rect) (block : List ℕ
       refused-if given (decides-full m) refl λ _.
       none refl
 
-  open-first : First (Applies m s n r block) (openCall m s n r .status) (ScreenLength ∷ Invalid ∷ ClientZero ∷ PaneIllegal ∷ ClientTaken ∷ PaneShared ∷ Full ∷ [])
+  open-first : First Done (Applies m s n r block) (openCall m s n r .status) (ScreenLength ∷ Invalid ∷ ClientZero ∷ PaneIllegal ∷ ClientTaken ∷ PaneShared ∷ Full ∷ [])
   open-first =
-      by-screen m s [] (openedAt m s n r) (λ x. First (Applies m s n r block) x (ScreenLength ∷ Invalid ∷ ClientZero ∷ PaneIllegal ∷ ClientTaken ∷ PaneShared ∷ Full ∷ [])) (claimSlot m n r)
+      by-screen m s [] (openedAt m s n r) (λ x. First Done (Applies m s n r block) x (ScreenLength ∷ Invalid ∷ ClientZero ∷ PaneIllegal ∷ ClientTaken ∷ PaneShared ∷ Full ∷ [])) (claimSlot m n r)
       (λ no-screen. here no-screen refl) (λ l. later (λ k. k l) claim-first)
 
   pub statuses : Statuses m s n r block
   statuses = record {
-    opening = answers-first (omega arith) open-first;
-    closing = answers-first (omega arith) close-first;
-    writing = answers-first (omega arith) write-first;
-    returning = answers-first (omega arith) return-first;
-    restoring = answers-first (omega arith) restore-first;
+    opening = answers-first refl (omega arith) open-first;
+    closing = answers-first refl (omega arith) close-first;
+    writing = answers-first refl (omega arith) write-first;
+    returning = answers-first refl (omega arith) return-first;
+    restoring = answers-first refl (omega arith) restore-first;
   }
 
   -- where 1 and 2 do not apply
   module _ (v : ValidMultiplexer m) (l : length s ≡ 1920) where
-    with-screen : {given : Status} {xs : List Status} → First (Applies m s n r block) given (ScreenLength ∷ Invalid ∷ xs) → First (Applies m s n r block) given xs
+    with-screen : {given : Status} {xs : List Status} → First Done (Applies m s n r block) given (ScreenLength ∷ Invalid ∷ xs) → First Done (Applies m s n r block) given xs
     with-screen f = spared (λ k. k v) (spared (λ k. k l) f)
 
     pub valid-statuses : ValidStatuses m s n r block
     valid-statuses = record {
-      opening = answers-first (omega arith) (with-screen open-first);
-      closing = answers-first (omega arith) (spared (λ k. k v) close-first);
-      writing = answers-first (omega arith) (with-screen write-first);
-      returning = answers-first (omega arith) (with-screen return-first);
-      restoring = answers-first (omega arith) (with-screen restore-first);
+      opening = answers-first refl (omega arith) (with-screen open-first);
+      closing = answers-first refl (omega arith) (spared (λ k. k v) close-first);
+      writing = answers-first refl (omega arith) (with-screen write-first);
+      returning = answers-first refl (omega arith) (with-screen return-first);
+      restoring = answers-first refl (omega arith) (with-screen restore-first);
     }
 
 -- ---- at an open slot

@@ -10,6 +10,7 @@ use Rattle.block.specs.Block.{blockLength}
 use Rattle.reply.specs.declared.Status.{Status}
 use Rattle.reply.specs.declared.Status.the-variants.{Done, ScreenLength, Invalid, ClientZero, PaneIllegal, ClientTaken, PaneShared, Full, NotOpen, BlockTooShort, BlockMismatch}
 use Rattle.reply.specs.Numbers.{statusNumber}
+use Rattle.reply.specs.Answers.{Exactly, Answers}
 use Rattle.slots.specs.declared.Multiplexer.{Multiplexer}
 use Rattle.slots.specs.State.{slotAt, pane, Open, Free, Closed}
 use Rattle.slots.specs.Valid.{ValidMultiplexer}
@@ -49,42 +50,22 @@ Applies m s n r block BlockTooShort = (i : ℕ) × Open m i × (slotAt m i .clie
 -- 'block restore: length is not exactly 2 + width x height, or the first two bytes are not the viewport's width and height'
 Applies m s n r block BlockMismatch = (i : ℕ) × Open m i × (slotAt m i .client ≡ n) × (Fits (viewport m i) block → ⊥)
 
--- 'each is given exactly then'
-pub record Exactly (given status : Status) (P : Type 0) : Type 0 where
-  pub only-when : given ≡ status → P
-  pub whenever : P → given ≡ status
-
--- each status exactly when its rule applies and none before it does, and 0 exactly when none does
-abbrev pub Each : (Status → Type 0) → Type 0 → List Status → Status → Type 0
-Each applies NoneBefore [] given = Exactly given Done NoneBefore
-Each applies NoneBefore (x ∷ xs) given = Exactly given x (NoneBefore × applies x) × Each applies (NoneBefore × (applies x → ⊥)) xs given
-
--- the statuses' numbers rise
-abbrev pub Rising : ℕ → List Status → Type 0
-Rising k [] = Unit {0}
-Rising k (x ∷ xs) = (k < statusNumber x) × Rising (statusNumber x) xs
-
--- 'where several apply, the smallest number that the call can give is given'
-pub record Answers (applies : Status → Type 0) (can : List Status) (given : Status) : Type 0 where
-  pub rising : Rising 0 can
-  pub each : Each applies (Unit {0}) can given
-
 -- demand 1: 'every call comes back, with 0 or with a refusal number given exactly when its rule says'.
 -- 'Open: 1 to 7. Close: 2, 8. Write: 1, 2, 8. Return: 1, 2, 8, 9. Restore: 1, 2, 8, 10.'
 pub record Statuses (m : Multiplexer) (s : List ℕ) (n : ℕ) (r : Rect) (block : List ℕ) : Type 0 where
-  pub opening : Answers (Applies m s n r block) (ScreenLength ∷ Invalid ∷ ClientZero ∷ PaneIllegal ∷ ClientTaken ∷ PaneShared ∷ Full ∷ []) (openCall m s n r .status)
-  pub closing : Answers (Applies m s n r block) (Invalid ∷ NotOpen ∷ []) (closeCall m n .status)
-  pub writing : Answers (Applies m s n r block) (ScreenLength ∷ Invalid ∷ NotOpen ∷ []) (writeCall m s n block .status)
-  pub returning : Answers (Applies m s n r block) (ScreenLength ∷ Invalid ∷ NotOpen ∷ BlockTooShort ∷ []) (returnCall m s n block .status)
-  pub restoring : Answers (Applies m s n r block) (ScreenLength ∷ Invalid ∷ NotOpen ∷ BlockMismatch ∷ []) (restoreCall m s n block .status)
+  pub opening : Answers Done statusNumber (Applies m s n r block) (ScreenLength ∷ Invalid ∷ ClientZero ∷ PaneIllegal ∷ ClientTaken ∷ PaneShared ∷ Full ∷ []) (openCall m s n r .status)
+  pub closing : Answers Done statusNumber (Applies m s n r block) (Invalid ∷ NotOpen ∷ []) (closeCall m n .status)
+  pub writing : Answers Done statusNumber (Applies m s n r block) (ScreenLength ∷ Invalid ∷ NotOpen ∷ []) (writeCall m s n block .status)
+  pub returning : Answers Done statusNumber (Applies m s n r block) (ScreenLength ∷ Invalid ∷ NotOpen ∷ BlockTooShort ∷ []) (returnCall m s n block .status)
+  pub restoring : Answers Done statusNumber (Applies m s n r block) (ScreenLength ∷ Invalid ∷ NotOpen ∷ BlockMismatch ∷ []) (restoreCall m s n block .status)
 
 -- of a valid multiplexer and 1,920 cells: 0 but for 8, 9, 10 and, at opening, 3 to 7, by the same rules
 pub record ValidStatuses (m : Multiplexer) (s : List ℕ) (n : ℕ) (r : Rect) (block : List ℕ) : Type 0 where
-  pub opening : Answers (Applies m s n r block) (ClientZero ∷ PaneIllegal ∷ ClientTaken ∷ PaneShared ∷ Full ∷ []) (openCall m s n r .status)
-  pub closing : Answers (Applies m s n r block) (NotOpen ∷ []) (closeCall m n .status)
-  pub writing : Answers (Applies m s n r block) (NotOpen ∷ []) (writeCall m s n block .status)
-  pub returning : Answers (Applies m s n r block) (NotOpen ∷ BlockTooShort ∷ []) (returnCall m s n block .status)
-  pub restoring : Answers (Applies m s n r block) (NotOpen ∷ BlockMismatch ∷ []) (restoreCall m s n block .status)
+  pub opening : Answers Done statusNumber (Applies m s n r block) (ClientZero ∷ PaneIllegal ∷ ClientTaken ∷ PaneShared ∷ Full ∷ []) (openCall m s n r .status)
+  pub closing : Answers Done statusNumber (Applies m s n r block) (NotOpen ∷ []) (closeCall m n .status)
+  pub writing : Answers Done statusNumber (Applies m s n r block) (NotOpen ∷ []) (writeCall m s n block .status)
+  pub returning : Answers Done statusNumber (Applies m s n r block) (NotOpen ∷ BlockTooShort ∷ []) (returnCall m s n block .status)
+  pub restoring : Answers Done statusNumber (Applies m s n r block) (NotOpen ∷ BlockMismatch ∷ []) (restoreCall m s n block .status)
 
 -- ---- at an open slot: client n's calls go to slot i of a valid multiplexer, with 1,920 cells
 pub record GoesTo (m : Multiplexer) (s : List ℕ) (n i : ℕ) : Type 0 where

@@ -23,19 +23,19 @@ use Rattle.field.specs.Typing.{Typed, after, unlessEnding, typeKeys}
 use Rattle.field.specs.Calls.{Replies, answerOf, keysTyped}
 
 -- ---- counts of keys before others
-after-nothing : (x : Typed) → after 0 0 x ≡ x
+pub after-nothing : (x : Typed) → after 0 0 x ≡ x
 after-nothing x = let n : 0 + x .read ≡ x .read = omega arith in let m : 0 + x .beeps ≡ x .beeps = omega arith in rw (n, m)
 
-after-after : (i j k l : ℕ) (x : Typed) → after i j (after k l x) ≡ after (i + k) (j + l) x
+pub after-after : (i j k l : ℕ) (x : Typed) → after i j (after k l x) ≡ after (i + k) (j + l) x
 after-after i j k l x = rw (add-assoc i k (x .read), add-assoc j l (x .beeps))
 
 module _ (f : Settings) (c : Content) (b : List ℕ) (key : ℕ) (keys : List ℕ) where
   -- the first key goes on, or ends the field
-  goes-on : endingOf key ≡ None → typeKeys f c b (key ∷ keys) ≡ after 1 (press f c key .beeps) (typeKeys f (press f c key .content) (laid (press f c key .content .text) b) keys)
+  pub goes-on : endingOf key ≡ None → typeKeys f c b (key ∷ keys) ≡ after 1 (press f c key .beeps) (typeKeys f (press f c key .content) (laid (press f c key .content .text) b) keys)
   unfolding typeKeys
   goes-on e = rw e
 
-  ends : (ending : Ending) → endingOf key ≡ ending → (ending ≡ None → ⊥) → typeKeys f c b (key ∷ keys) ≡ record { content = c; buffer = b; read = 1; beeps = 0; ending = ending }
+  pub ends : (ending : Ending) → endingOf key ≡ ending → (ending ≡ None → ⊥) → typeKeys f c b (key ∷ keys) ≡ record { content = c; buffer = b; read = 1; beeps = 0; ending = ending }
   unfolding typeKeys
   ends None e some = absurd (some refl)
   ends Return e some = rw e

@@ -23,28 +23,28 @@ use Rattle.field.specs.Typing.{typeKeys}
 use Rattle.field.specs.Calls.{Reply, Replies, answerOf, startRefused, started, startCall, keysRefused, keysTyped, keysCall, textBy, textCall, IsText}
 
 module _ (width maximum : ℕ) (default b : List ℕ) (v : Verdict) where
-  pub start-refuses : (r : Started) (status : Status) → v ≡ startVerdict width maximum (length default) (length b) → v ≡ Refused status → r ≡ startRefused status b .answer
+  pub start-refused : (r : Started) (status : Status) → v ≡ startVerdict width maximum (length default) (length b) → v ≡ Refused status → r ≡ startRefused status b .answer
       → Replies (startCall width maximum default b) r b
   unfolding startCall onVerdict
-  start-refuses r status is e made = rw (sym is ∙ e) (record { answer-is = made; bytes = refl })
+  start-refused r status is e made = rw (sym is ∙ e) (record { answer-is = made; bytes = refl })
 
-  pub start-makes : (r : Started) (s : State) (b′ : List ℕ) → v ≡ startVerdict width maximum (length default) (length b) → v ≡ Accepted → s ≡ stateOf (startContent width default) → b′ ≡ laid default b
+  pub start-made : (r : Started) (s : State) (b′ : List ℕ) → v ≡ startVerdict width maximum (length default) (length b) → v ≡ Accepted → s ≡ stateOf (startContent width default) → b′ ≡ laid default b
       → r ≡ record { status = Done; state = s }
       → Replies (startCall width maximum default b) r b′
   unfolding startCall onVerdict
-  start-makes r s b′ is e state bytes made = rw (sym is ∙ e) (record { answer-is = made ∙ rw state; bytes = bytes })
+  start-made r s b′ is e state bytes made = rw (sym is ∙ e) (record { answer-is = made ∙ rw state; bytes = bytes })
 
   module _ (state : State) (keys : List ℕ) where
-    pub keys-refuses : (r : Answer) (status : Status) → v ≡ keysVerdict width maximum (length default) (length b) state → v ≡ Refused status → r ≡ keysRefused status state b .answer
+    pub keys-refused : (r : Answer) (status : Status) → v ≡ keysVerdict width maximum (length default) (length b) state → v ≡ Refused status → r ≡ keysRefused status state b .answer
         → Replies (keysCall width maximum default b state keys) r b
     unfolding keysCall onVerdict
-    keys-refuses r status is e made = rw (sym is ∙ e) (record { answer-is = made; bytes = refl })
+    keys-refused r status is e made = rw (sym is ∙ e) (record { answer-is = made; bytes = refl })
 
-    pub keys-makes : (r : Answer) (b′ : List ℕ) → v ≡ keysVerdict width maximum (length default) (length b) state → v ≡ Accepted
+    pub keys-made : (r : Answer) (b′ : List ℕ) → v ≡ keysVerdict width maximum (length default) (length b) state → v ≡ Accepted
         → Replies (keysTyped (typeKeys (settings width maximum default) (contentOf state b) b keys)) r b′
         → Replies (keysCall width maximum default b state keys) r b′
     unfolding keysCall onVerdict
-    keys-makes r b′ is e made = rw (sym is ∙ e) made
+    keys-made r b′ is e made = rw (sym is ∙ e) made
 
 -- a lent text is the whole of itself
 pub whole-part : (x : RefT (List ℕ)) → IsPart x x (stretch 0 (length (x .now)))
@@ -55,9 +55,9 @@ module _ (width maximum : ℕ) (buffer default r : RefT (List ℕ)) (v : Verdict
   abbrev Given : Type 0
   Given = IsText (textCall width maximum state ending (length (buffer .now)) (length (default .now))) buffer default r
 
-  pub text-refuses : (status : Status) → v ≡ Refused status → IsPart buffer r noStretch → Given
+  pub text-refused : (status : Status) → v ≡ Refused status → IsPart buffer r noStretch → Given
   unfolding textCall onVerdict
-  text-refuses status e part = rw (sym is ∙ e) part
+  text-refused status e part = rw (sym is ∙ e) part
 
   pub text-none : v ≡ Accepted → ending ≡ None → IsPart buffer r noStretch → Given
   unfolding textCall onVerdict

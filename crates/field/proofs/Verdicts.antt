@@ -88,6 +88,10 @@ module _ (width maximum default buffer : ℕ) where
   pub start-accepted : (v : Verdict) → v ≡ startVerdict width maximum default buffer → v ≡ Accepted → Sized width maximum default buffer
   start-accepted v is e = sized-by (sym is ∙ e)
 
+  pub keys-sized : (v : Verdict) (state : State) → v ≡ keysVerdict width maximum default buffer state → v ≡ Accepted → Sized width maximum default buffer
+  unfolding keysVerdict
+  keys-sized v state is e = sized-by (both-accepted (startVerdict width maximum default buffer) (stateVerdict width maximum state) (sym is ∙ e) .0)
+
   pub keys-accepted : (v : Verdict) (state : State) → v ≡ keysVerdict width maximum default buffer state → v ≡ Accepted → Ready width maximum default buffer state
   unfolding keysVerdict
   keys-accepted v state is e =
@@ -102,12 +106,8 @@ module _ (width maximum default buffer : ℕ) where
   pub text-in-buffer : (v : Verdict) (state : State) → v ≡ keysVerdict width maximum default buffer state → v ≡ Accepted → state .length ≤ buffer
   text-in-buffer v state is e = let ready = keys-accepted v state is e in omega (arith, ready .within .length-within, ready .room)
 
--- ---- what a call gives, by each way
-module _ {A : Type 0} (refused : Status → A) (made : A) where
-  pub on-refused : (v : Verdict) (status : Status) → v ≡ Refused status → onVerdict v refused made ≡ refused status
-  unfolding onVerdict
-  on-refused v status e = rw e
-
-  pub on-accepted : (v : Verdict) → v ≡ Accepted → onVerdict v refused made ≡ made
-  unfolding onVerdict
-  on-accepted v e = rw e
+-- ---- a property of what a refused call gives, and of what one that is made does, is one of the call
+pub by-verdict : {A : Type 0} (P : A → Type 0) (refused : Status → A) (made : A) (v : Verdict) → ((status : Status) → v ≡ Refused status → P (refused status)) → (v ≡ Accepted → P made) → P (onVerdict v refused made)
+unfolding onVerdict
+by-verdict P refused made (Refused status) refuses makes = refuses status refl
+by-verdict P refused made Accepted refuses makes = makes refl

@@ -58,15 +58,19 @@ pub data Part : Type 0 where
   ofBuffer : Stretch → Part
   ofDefault : Stretch → Part
 
+-- 'an empty stretch'
+abbrev pub noText : Part
+noText = ofBuffer noStretch
+
 -- 'Return hands back the typed part of the buffer; Escape .. the lent default itself; none, an empty one'
 abbrev pub textBy : Ending → State → ℕ → Part
-textBy None state default = ofBuffer noStretch
+textBy None state default = noText
 textBy Return state default = ofBuffer (stretch 0 (state .length))
 textBy Escape state default = ofDefault (stretch 0 default)
 
--- .. and a refusal 'an empty stretch', by the lengths of the lent default and buffer
+-- .. and a refusal an empty stretch, by the lengths of the lent default and buffer
 unfoldable pub textCall : ℕ → ℕ → State → Ending → ℕ → ℕ → Part
-textCall width maximum state ending buffer default = onVerdict (keysVerdict width maximum default buffer state) (λ status. ofBuffer noStretch) (textBy ending state default)
+textCall width maximum state ending buffer default = onVerdict (keysVerdict width maximum default buffer state) (λ status. noText) (textBy ending state default)
 
 -- r is that stretch of the lent slice itself
 abbrev pub IsText : Part → RefT (List ℕ) → RefT (List ℕ) → RefT (List ℕ) → Type 0

@@ -1,7 +1,7 @@
 -- `field::keys` meets its contract: the verdict, and where it accepts, the keys. Assumes nothing.
 use borrow.Author.Needs.{needs}
 use Rattle.field.proofs.Verdicts.{keys-accepted}
-use Rattle.field.proofs.Replying.{keys-refuses, keys-makes}
+use Rattle.field.proofs.Replying.{keys-refused, keys-made}
 use Rattle.field.proofs.keys.Statement.{statement}
 use Rattle.field.proofs.keys.Tie as tie
 
@@ -21,13 +21,13 @@ type-keys-requires : tie.Need-type-keys-requires
 type-keys-requires c κs = search keys-accepted
 
 returns : tie.Need-returns
-returns c = search keys-refuses
+returns c = search keys-refused
 
 same-length : tie.Need-same-length
 same-length c = search needs
 
 returns-2 : tie.Need-returns-2
-returns-2 c = search keys-makes
+returns-2 c = search keys-made
 
 pub keys-spec : {M : Type 1} → statement M
 keys-spec =

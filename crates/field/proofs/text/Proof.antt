@@ -1,7 +1,7 @@
 -- `field::text` meets its contract: the verdict, and where it accepts, the part that the ending chooses. Assumes nothing.
 use borrow.Author.Needs.{needs}
 use Rattle.field.proofs.Verdicts.{text-in-buffer}
-use Rattle.field.proofs.Replying.{text-refuses, text-none, text-typed, text-default}
+use Rattle.field.proofs.Replying.{text-refused, text-none, text-typed, text-default}
 use Rattle.field.proofs.text.Statement.{statement}
 use Rattle.field.proofs.text.Tie as tie
 
@@ -33,7 +33,7 @@ enum-told-5 : tie.Need-enum-told-5
 enum-told-5 c = search needs
 
 returns : tie.Need-returns
-returns c = search text-refuses
+returns c = search text-refused
 
 returns-2 : tie.Need-returns-2
 returns-2 c = search text-none

@@ -7,11 +7,14 @@
 //! with --cut one byte a write, and shows the screen, cursor and bells.
 //! With --script standard input is a script of calls on a fresh multiplexer
 //! with a blank screen, and the program gives their answers as bytes.
+//! With --field it is keys for an input field, and the program shows how
+//! the field ended and its text.
 
 mod block;
 mod cells;
 mod console;
 mod cursor;
+mod field;
 mod multiplexer;
 mod port;
 mod script;
@@ -20,23 +23,29 @@ mod stored;
 mod tests;
 
 use console::write;
+use field::Ending;
 use port::{cell, Port, BLANK, SCREEN_SIZE};
 use script::run_script;
 use std::ffi::OsString;
 use std::fs::File;
 use std::io::{self, Read, Write};
+use std::os::unix::ffi::OsStrExt;
 use std::os::unix::io::AsFd;
 use std::process::exit;
 
-/// Bytes of the input past this many are not read; a script has no limit.
+/// Bytes of the input past this many are not read; scripts and keys have no limit.
 const INPUT_LIMIT: u64 = 1_048_576;
 
+const USE: &str = "the only arguments known are --cut, --script and \
+    --field WIDTH MAXIMUM DEFAULT, one at a time";
+
 /// What the program is asked to do with its input.
-#[derive(Clone, Copy, Debug, PartialEq, Eq)]
+#[derive(Clone, Debug, PartialEq, Eq)]
 enum Task {
     Whole,
     Cut,
     Script,
+    Field { width: usize, maximum: usize, default: Vec<u8> },
 }
 
 fn main() {
@@ -44,13 +53,13 @@ fn main() {
     let task = match task_asked(&arguments) {
         Some(task) => task,
         None => {
-            eprintln!("console: the only arguments known are --cut and --script, one at a time");
+            eprintln!("console: {}", USE);
             exit(2);
         }
     };
     let read = match task {
         Task::Whole | Task::Cut => standard_input().and_then(read_input),
-        Task::Script => standard_input().and_then(read_script),
+        Task::Script | Task::Field { .. } => standard_input().and_then(read_all),
     };
     let input = match read {
         Ok(input) => input,
@@ -63,6 +72,9 @@ fn main() {
         Task::Whole => run(&input, false).into_bytes(),
         Task::Cut => run(&input, true).into_bytes(),
         Task::Script => run_script(&input, &mut [BLANK; SCREEN_SIZE]),
+        Task::Field { width, maximum, default } => {
+            run_field(width, maximum, &default, &input).into_bytes()
+        }
     };
     let mut standard_output = io::stdout();
     // Answers need not end in a line feed, so what is left is flushed.
@@ -74,7 +86,7 @@ fn main() {
 }
 
 /// No argument: one write. --cut alone: one byte a write. --script alone:
-/// a script. Else none.
+/// a script. --field with two numbers and a text: a field. Else none.
 fn task_asked(arguments: &[OsString]) -> Option<Task> {
     if arguments.is_empty() {
         Some(Task::Whole)
@@ -82,9 +94,18 @@ fn task_asked(arguments: &[OsString]) -> Option<Task> {
         Some(Task::Cut)
     } else if arguments.len() == 1 && arguments[0] == "--script" {
         Some(Task::Script)
+    } else if arguments.len() == 4 && arguments[0] == "--field" {
+        let width = number(&arguments[1])?;
+        let maximum = number(&arguments[2])?;
+        Some(Task::Field { width, maximum, default: arguments[3].as_bytes().to_vec() })
     } else {
         None
     }
+}
+
+/// A decimal number of any value; whether it is in range the field decides.
+fn number(argument: &OsString) -> Option<usize> {
+    argument.to_str()?.parse().ok()
 }
 
 /// Standard input without a buffer, so that nothing past the limit is taken.
@@ -98,11 +119,11 @@ fn read_input(source: impl Read) -> io::Result<Vec<u8>> {
     Ok(input)
 }
 
-/// A script is read to its end.
-fn read_script(mut source: impl Read) -> io::Result<Vec<u8>> {
-    let mut script = Vec::new();
-    source.read_to_end(&mut script)?;
-    Ok(script)
+/// A script and keys are read to their end.
+fn read_all(mut source: impl Read) -> io::Result<Vec<u8>> {
+    let mut input = Vec::new();
+    source.read_to_end(&mut input)?;
+    Ok(input)
 }
 
 /// Runs the input on a fresh console with a blank screen.
@@ -138,4 +159,33 @@ fn report(screen: &[u8], port: &Port, bells: usize) -> String {
     let cursor = port.state.cursor;
     text.push_str(&format!("cursor {} {} bells {}\n", cursor.column, cursor.line, bells));
     text
+}
+
+/// Starts a field in a buffer of 0s and hands it the keys in one call. A
+/// maximum that is too large is refused whatever the buffer, so the buffer
+/// need not grow with it.
+fn run_field(width: usize, maximum: usize, default: &[u8], keys: &[u8]) -> String {
+    let mut buffer = vec![0; maximum.min(field::LARGEST)];
+    let (status, state) = field::start(width, maximum, default, &mut buffer);
+    let answer = field::keys(width, maximum, default, &mut buffer, state, keys);
+    assert_eq!(answer.status, status, "the start and the keys were judged differently");
+    let text = field::text(width, maximum, answer.state, answer.ending, &buffer, default);
+    report_field(&answer, text)
+}
+
+/// One line for the answer, then one for the text in hex.
+fn report_field(answer: &field::Answer, text: &[u8]) -> String {
+    let ending = match answer.ending {
+        Ending::None => "none",
+        Ending::Return => "return",
+        Ending::Escape => "escape",
+    };
+    let mut lines = format!("status {} ", answer.status);
+    lines.push_str(&format!("length {} cursor {} ", answer.state.length, answer.state.cursor));
+    lines.push_str(&format!("read {} beeps {} ending {}\n", answer.read, answer.beeps, ending));
+    for byte in text {
+        lines.push_str(&format!("{:02x}", byte));
+    }
+    lines.push('\n');
+    lines
 }

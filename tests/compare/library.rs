@@ -3,6 +3,10 @@
 //! for the length beside it, and no slice that may be written overlaps
 //! another one. Rust's borrow rules give both to the functions here.
 
+mod fields;
+
+pub use fields::{field_keys, field_start, field_text};
+
 extern "C" {
     fn combthrift_run_script(
         script: *const u8,

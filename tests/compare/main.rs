@@ -1,12 +1,13 @@
 //! Compares the console program and the library `boundary` with the
-//! reference program, on stored streams, on random ones, and on random
-//! scripts of calls by client.
+//! reference program, on stored streams, on random ones, on random
+//! scripts of calls by client, and on random input fields.
 //!
 //! Build: rustc --edition 2021 -O -L native=target/staticlib
 //!        -l static=boundary -o OUT tests/compare/main.rs
 //! Run:   OUT streams DIR CONSOLE
 //!        OUT random SEED COUNT CONSOLE
 //!        OUT scripts SEED COUNT
+//!        OUT fields SEED COUNT
 //!
 //! CONSOLE is a program that reads a stream from standard input and
 //! prints the screen, cursor and bells. The exit status is 0 if all is
@@ -20,6 +21,8 @@ mod cells;
 mod console;
 #[path = "../../reference/src/cursor.rs"]
 mod cursor;
+#[path = "../../reference/src/field.rs"]
+mod field;
 #[path = "../../reference/src/multiplexer.rs"]
 mod multiplexer;
 #[path = "../../reference/src/port.rs"]
@@ -33,6 +36,7 @@ mod commands;
 mod difference;
 mod edges;
 mod expected;
+mod fields;
 mod generator;
 mod library;
 mod limits;
@@ -52,7 +56,8 @@ use std::process::exit;
 
 const USAGE: &str = "usage: compare streams DIR CONSOLE
        compare random SEED COUNT CONSOLE
-       compare scripts SEED COUNT";
+       compare scripts SEED COUNT
+       compare fields SEED COUNT";
 
 fn main() {
     let arguments: Vec<OsString> = std::env::args_os().skip(1).collect();
@@ -76,6 +81,7 @@ fn asked(arguments: &[OsString]) -> Option<bool> {
             Some(random::random(number(seed)?, number(count)?, console))
         }
         ("scripts", [seed, count]) => Some(scripts::scripts(number(seed)?, number(count)?)),
+        ("fields", [seed, count]) => Some(fields::fields(number(seed)?, number(count)?)),
         _ => None,
     }
 }

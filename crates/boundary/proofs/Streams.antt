@@ -1,29 +1,29 @@
 -- Each way through a run of a stream. Assumes nothing.
 use Prim.Native.Nat.{ℕ, _≤_, _<_}
-use mathlib.Core.Path.{_≡_, refl, sym, ap, _∙_, subst}
+use mathlib.Core.Path.{_≡_, refl, sym, subst}
 use mathlib.Core.List.{List, [], _∷_, _++_}
 use borrow.Author.Tests.{eq-eqb, ne-eqb, lt-ltb, le-ltb}
 use lib.ListN.{length, drop}
-use Rattle.console.specs.Calls.{freshConsole, writeCall}
 use Rattle.session.specs.declared.Session.{Session}
-use Rattle.session.specs.Session.{freshSession, afterWrite, Fed, FedIfAny}
+use Rattle.session.specs.Session.{freshSession, Fed, FedIfAny}
 use Rattle.session.specs.Answer.{endOf}
-use Rattle.boundary.specs.Stream.{Run, notRun, endsIn, streamRun, bytewiseRun, Runs}
+use Rattle.boundary.specs.Run.{Runs}
+use Rattle.boundary.specs.Stream.{endsIn, streamRun, bytewiseRun}
 
 module _ (s answer : List ℕ) where
   -- no room, and room
   no-room : (end : Session) (t : List ℕ) → length answer < 7 → Runs (endsIn s answer end t) 0 s answer
   unfolding endsIn
-  no-room end t short = simp (lt-ltb (length answer) 7 short) (record { size-is = refl; cells = refl; bytes = refl })
+  no-room end t short = simp (lt-ltb (length answer) 7 short) (record { size-is = refl; lent-is = refl; answer-is = refl })
 
   room : (end : Session) (t after : List ℕ) → 7 ≤ length answer → after ≡ endOf end ++ drop 7 answer → Runs (endsIn s answer end t) 7 t after
   unfolding endsIn
-  room end t after enough laid = simp (le-ltb (length answer) 7 enough) (record { size-is = refl; cells = refl; bytes = laid })
+  room end t after enough laid = simp (le-ltb (length answer) 7 enough) (record { size-is = refl; lent-is = refl; answer-is = laid })
 
   module _ (bytes : List ℕ) (size : ℕ) where
     pub no-size : size ≡ 0 → Runs (streamRun bytes size s answer) 0 s answer
     unfolding streamRun
-    no-size none = simp (eq-eqb size 0 none) (record { size-is = refl; cells = refl; bytes = refl })
+    no-size none = simp (eq-eqb size 0 none) (record { size-is = refl; lent-is = refl; answer-is = refl })
 
     pub stream-short : (size ≡ 0 → ⊥) → length answer < 7 → Runs (streamRun bytes size s answer) 0 s answer
     unfolding streamRun

@@ -1,5 +1,6 @@
-// Runs from Rust, for tests and benchmarks: a script of calls by client, or a plain stream in pieces or byte after byte. Scripts, streams and answers are bytes.
+// Runs from Rust, for tests and benchmarks: a script of calls by client, a plain stream in pieces or byte after byte, or an input field's calls (`fields`). Scripts, streams and answers are bytes; a field's answers are numbers.
 // No state crosses this boundary. What it assumes of its caller is outside the proofs: each pointer is good for its length, and lent slices do not overlap.
+mod fields;
 mod room;
 mod script;
 
@@ -26,7 +27,8 @@ ghost use Prim.Native.Nat.{_+_, _≤_, _<_, min};
 ghost use mathlib.Core.Path.{_≡_};
 ghost use lib.ListN.{length};
 ghost use Rattle.boundary.specs.Script.{Lies};
-ghost use Rattle.boundary.specs.Stream.{streamRun, bytewiseRun, Runs};
+ghost use Rattle.boundary.specs.Run.{Runs};
+ghost use Rattle.boundary.specs.Stream.{streamRun, bytewiseRun};
 
 // One call. lent is a block return's block, and arguments are the bytes of the others.
 fn dispatch(

@@ -1,12 +1,10 @@
 -- The loops that move bytes of a buffer: from a place on, up to the place that they have come to, its bytes are those of a list s. Assumes nothing.
 use Prim.Native.Nat.{ℕ, suc, _+_, _-_, _≤_, _<_}
 use mathlib.Core.Path.{_≡_, refl, sym, ap, _∙_}
-use mathlib.Core.List.{List, [], _∷_, _++_}
-use native.Mathlib.Nat.{add-zero, sub-self}
-use native.Mathlib.Numerals.{add-one}
+use mathlib.Core.List.{List, _∷_}
 use native.Mathlib.Omega.{arith}
 use lib.ListN.{length, getD, set, take, drop, length-set, length-drop}
-use lib.Seq.{getD-drop, paste, paste-zero, paste-suc, length-paste, drop-paste}
+use lib.Seq.{getD-drop, paste, paste-zero, paste-suc, drop-paste}
 use Rattle.editing.specs.Keys.{inserted, removed}
 use Rattle.editing.specs.Buffer.{laid}
 use Rattle.editing.proofs.Texts.{pasted-laid, inserted-front, removed-front}

@@ -1,17 +1,16 @@
 -- Each way through the function of a key. Assumes nothing.
 use Prim.Native.Nat.{ℕ, _+_, _-_, _≤_, _<_}
-use mathlib.Core.Path.{_≡_, refl, sym, ap, _∙_}
-use mathlib.Core.Bool.{Bool, true, false, cond, _||_}
-use mathlib.Core.List.{List, [], _∷_, _++_}
+use mathlib.Core.Path.{_≡_, refl, sym, _∙_}
+use mathlib.Core.Bool.{Bool, true, false, _||_}
+use mathlib.Core.List.{List, [], _∷_}
 use native.Mathlib.Omega.{arith}
 use borrow.Author.Tests.{eq-eqb, ne-eqb, lt-ltb, le-ltb}
-use lib.Dec.{ltb, eqb}
-use lib.ListN.{length, take, drop, length-append, length-drop}
+use lib.ListN.{length, take, length-append, length-drop}
 use lib.Seq.{length-take-le, take-take}
 use Rattle.editing.specs.declared.State.{State}
 use Rattle.editing.specs.declared.Pressed.{Pressed}
-use Rattle.editing.specs.Keys.{Content, Settings, Effect, isPrintingKey, press, becomes, beep, inserted, removed, insert, moveLeft, moveRight, deleteLeft, deleteUnder, deleteAll, deleteToEnd, restoreDefault, startContent}
-use Rattle.editing.specs.Buffer.{laid, contentOf, stateOf, beeped, edited, Within, Presses, PressesAny}
+use Rattle.editing.specs.Keys.{Content, Settings, isPrintingKey, press, becomes, beep, inserted, removed, insert, moveLeft, moveRight, deleteLeft, deleteUnder, deleteAll, deleteToEnd, restoreDefault, startContent}
+use Rattle.editing.specs.Buffer.{laid, contentOf, stateOf, beeped, edited, Within, Presses}
 use Rattle.editing.proofs.Texts.{laid-front}
 
 -- ---- lengths of an edited text

@@ -1,13 +1,13 @@
 -- Keys read one after another: a stream of them may be cut, and the loop that reads them. Assumes nothing.
-use Prim.Native.Nat.{ℕ, suc, _+_, _-_, _≤_, _<_}
+use Prim.Native.Nat.{ℕ, _+_, _≤_, _<_}
 use mathlib.Core.Path.{_≡_, refl, sym, ap, _∙_, subst}
 use mathlib.Core.Logic.{⊎-elim}
-use mathlib.Core.List.{List, [], _∷_, _++_}
+use mathlib.Core.List.{List, [], _∷_}
 use native.Mathlib.Nat.{add-assoc}
 use native.Mathlib.Numerals.{add-one}
 use native.Mathlib.Omega.{arith}
-use lib.ListN.{length, getD, take, drop, drop-of-length-le}
-use lib.Seq.{drop-cons, take-all}
+use lib.ListN.{length, getD, drop, drop-of-length-le}
+use lib.Seq.{drop-cons}
 use Rattle.editing.specs.declared.State.{State}
 use Rattle.editing.specs.declared.Pressed.{Pressed}
 use Rattle.editing.specs.Keys.{Content, Settings, Effect, press}
@@ -19,7 +19,7 @@ use Rattle.field.specs.declared.Ending.{Ending}
 use Rattle.field.specs.declared.Ending.the-variants.{None, Return, Escape}
 use Rattle.field.specs.declared.Answer.{Answer}
 use Rattle.field.specs.Endings.{endingOf}
-use Rattle.field.specs.Typing.{Typed, after, unlessEnding, typeKeys}
+use Rattle.field.specs.Typing.{Typed, after, typeKeys}
 use Rattle.field.specs.Calls.{Replies, answerOf, keysTyped}
 
 -- ---- counts of keys before others

@@ -1,6 +1,6 @@
 -- Each way through a call. Assumes nothing.
-use Prim.Native.Nat.{ℕ, _≤_}
-use mathlib.Core.Path.{_≡_, refl, sym, ap, _∙_}
+use Prim.Native.Nat.{ℕ}
+use mathlib.Core.Path.{_≡_, refl, sym, _∙_}
 use mathlib.Core.List.{List}
 use native.Mathlib.Omega.{arith}
 use lib.ListN.{length}
@@ -20,7 +20,7 @@ use Rattle.field.specs.declared.verdict.Verdict.{Verdict}
 use Rattle.field.specs.declared.verdict.Verdict.the-variants.{Accepted, Refused}
 use Rattle.field.specs.Verdict.{startVerdict, keysVerdict, onVerdict}
 use Rattle.field.specs.Typing.{typeKeys}
-use Rattle.field.specs.Calls.{Reply, Replies, answerOf, startRefused, started, startCall, keysRefused, keysTyped, keysCall, textBy, textCall, IsText}
+use Rattle.field.specs.Calls.{Replies, startRefused, startCall, keysRefused, keysTyped, keysCall, textCall, IsText}
 
 module _ (width maximum : ℕ) (default b : List ℕ) (v : Verdict) where
   pub start-refused : (r : Started) (status : Status) → v ≡ startVerdict width maximum (length default) (length b) → v ≡ Refused status → r ≡ startRefused status b .answer

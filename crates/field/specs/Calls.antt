@@ -4,7 +4,7 @@ use mathlib.Core.Path.{_≡_}
 use mathlib.Core.List.{List}
 use lib.ListN.{length}
 use denote.Ref.{RefT}
-use Rattle.laws.specs.Parts.{Stretch, stretch, noStretch, IsPart}
+use Rattle.laws.specs.Parts.{Stretch, stretch, noStretch, bytesOf, IsPart}
 use Rattle.editing.specs.declared.State.{State}
 use Rattle.editing.specs.Keys.{startContent}
 use Rattle.editing.specs.Buffer.{laid, settings, contentOf, stateOf}
@@ -76,3 +76,8 @@ textCall width maximum state ending buffer default = onVerdict (keysVerdict widt
 abbrev pub IsText : Part → RefT (List ℕ) → RefT (List ℕ) → RefT (List ℕ) → Type 0
 IsText (ofBuffer x) buffer default r = IsPart buffer r x
 IsText (ofDefault x) buffer default r = IsPart default r x
+
+-- its bytes
+abbrev pub textBytes : Part → List ℕ → List ℕ → List ℕ
+textBytes (ofBuffer x) buffer default = bytesOf x buffer
+textBytes (ofDefault x) buffer default = bytesOf x default

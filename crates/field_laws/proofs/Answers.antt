@@ -2,7 +2,7 @@
 use Prim.Native.Nat.{ℕ, _<_}
 use native.Mathlib.Omega.{arith}
 use mathlib.Core.Path.{_≡_, refl, sym, ap, _∙_}
-use mathlib.Core.Bool.{Bool, cond, _||_}
+use mathlib.Core.Bool.{_||_}
 use mathlib.Core.Logic.{_⊎_, inl, inr, ⊎-elim}
 use mathlib.Core.List.{List, [], _∷_}
 use borrow.Author.Tests.{le-ltb}
@@ -10,7 +10,7 @@ use lib.Dec.{ltb}
 use lib.ListN.{length}
 use Rattle.laws.proofs.Tests.{by-test, decides-lt, fails}
 use Rattle.reply.proofs.Rules.{First, refused-if, answers-first}
-use Rattle.reply.proofs.Rules.First.{none, here, later}
+use Rattle.reply.proofs.Rules.First.{none}
 use Rattle.editing.specs.declared.State.{State}
 use Rattle.editing.specs.Buffer.{Within, settings, contentOf}
 use Rattle.field.specs.declared.Status.{Status}

@@ -1,29 +1,24 @@
 -- What the user has chosen. Assumes nothing.
-use Prim.Native.Nat.{ℕ, _≤_}
+use Prim.Native.Nat.{ℕ}
 use native.Mathlib.Omega.{arith}
-use mathlib.Core.Path.{_≡_, refl, sym, ap, _∙_, subst}
-use mathlib.Core.Logic.{⊎-elim}
+use mathlib.Core.Path.{_≡_, refl, sym, ap, _∙_}
 use mathlib.Core.List.{List, [], _∷_, _++_}
-use lib.ListN.{length, take}
+use lib.ListN.{length}
 use lib.Seq.{take-length}
 use Rattle.editing.specs.declared.State.{State}
-use Rattle.editing.specs.Keys.{Content, Settings, Effect, startContent, restoreDefault, press}
+use Rattle.editing.specs.Keys.{startContent, restoreDefault, press}
 use Rattle.editing.specs.Buffer.{laid, settings, contentOf, stateOf}
 use Rattle.editing.proofs.Texts.{take-laid, length-laid}
 use Rattle.editing.proofs.Keeps.{keeps-start}
-use Rattle.field.specs.declared.Status.{Status}
 use Rattle.field.specs.declared.Status.the-variants.{Done}
-use Rattle.field.specs.declared.Ending.{Ending}
 use Rattle.field.specs.declared.Ending.the-variants.{None, Return, Escape}
 use Rattle.field.specs.declared.Answer.{Answer}
-use Rattle.field.specs.declared.verdict.Verdict.{Verdict}
-use Rattle.field.specs.declared.verdict.Verdict.the-variants.{Accepted, Refused}
-use Rattle.field.specs.Verdict.{startVerdict, keysVerdict}
+use Rattle.field.specs.declared.verdict.Verdict.the-variants.{Refused}
 use Rattle.field.specs.Endings.{endingOf}
-use Rattle.field.specs.Typing.{Typed, after, typeKeys}
-use Rattle.field.specs.Calls.{Reply, Part, keysTyped, startCall, keysCall, textBy, textCall}
+use Rattle.field.specs.Typing.{typeKeys}
+use Rattle.field.specs.Calls.{Reply, Part, startCall, keysCall, textBy, textBytes}
 use Rattle.field.proofs.Verdicts.{start-accepted, keys-sized, keys-accepted}
-use Rattle.field_laws.specs.Laws.{textBytes, chosen, ReturnsDefault}
+use Rattle.field_laws.specs.Laws.{chosen, ReturnsDefault}
 use Rattle.field_laws.proofs.Answers.{accepts, keys-not-done, start-not-done, keys-was-accepted, by-start, by-keys, keys-reply}
 use Rattle.field_laws.proofs.Ran.{fits-start, ran}
 use Rattle.field_laws.proofs.Cut.{keys-cut}

@@ -1,18 +1,15 @@
 -- Keys cut in two. Assumes nothing.
 use Prim.Native.Nat.{ℕ, _+_}
-use native.Mathlib.Omega.{arith}
-use mathlib.Core.Path.{_≡_, refl, sym, ap, _∙_, subst}
+use mathlib.Core.Path.{_≡_, refl, sym, ap, _∙_}
 use mathlib.Core.Logic.{⊎-elim}
 use mathlib.Core.List.{List, [], _∷_, _++_}
 use lib.ListN.{length}
 use Rattle.editing.specs.declared.State.{State}
 use Rattle.editing.specs.Keys.{Content, Settings, press}
-use Rattle.editing.specs.Buffer.{laid, settings, contentOf, stateOf, Within, Ready}
+use Rattle.editing.specs.Buffer.{laid, settings, contentOf, stateOf}
 use Rattle.field.specs.declared.Status.{Status}
-use Rattle.field.specs.declared.Ending.{Ending}
 use Rattle.field.specs.declared.Ending.the-variants.{None}
 use Rattle.field.specs.declared.Answer.{Answer}
-use Rattle.field.specs.declared.verdict.Verdict.{Verdict}
 use Rattle.field.specs.declared.verdict.Verdict.the-variants.{Accepted, Refused}
 use Rattle.field.specs.Verdict.{keysVerdict}
 use Rattle.field.specs.Rules.{Sized}
@@ -21,7 +18,7 @@ use Rattle.field.specs.Typing.{Typed, after, typeKeys}
 use Rattle.field.specs.Calls.{Reply, keysRefused, keysTyped, keysCall}
 use Rattle.field.proofs.Verdicts.{keys-sized, keys-accepted}
 use Rattle.field.proofs.Reading.{after-nothing, after-after, goes-on, ends}
-use Rattle.field_laws.specs.Laws.{SameCut, Cut}
+use Rattle.field_laws.specs.Laws.{Cut}
 use Rattle.field_laws.proofs.Answers.{judged, keys-refusal, keys-reply, keys-accepts}
 use Rattle.field_laws.proofs.Ran.{ended?, Fits, Ran, fits-start, ran}
 

@@ -1,32 +1,24 @@
 -- What a call keeps within limits, and that a beeped key changes nothing. Assumes nothing.
 use Prim.Native.Nat.{ℕ, _≤_}
 use native.Mathlib.Omega.{arith}
-use mathlib.Core.Path.{_≡_, refl, sym, ap, _∙_, subst}
+use mathlib.Core.Path.{_≡_, refl, ap, _∙_}
 use mathlib.Core.Logic.{⊎-elim}
 use mathlib.Core.List.{List, [], _∷_}
-use lib.ListN.{length, take}
+use lib.ListN.{length}
 use Rattle.editing.specs.declared.State.{State}
-use Rattle.editing.specs.Keys.{Content, Settings, Effect, beep, press}
+use Rattle.editing.specs.Keys.{Content, Settings, Effect}
 use Rattle.editing.specs.Buffer.{laid, settings, contentOf, stateOf}
 use Rattle.editing.proofs.Texts.{laid-front, length-laid, state-content}
 use Rattle.editing.proofs.Keeps.{keeps-start, beeped-or-not}
-use Rattle.field.specs.declared.Status.{Status}
-use Rattle.field.specs.declared.Status.the-variants.{Done}
-use Rattle.field.specs.declared.Ending.{Ending}
-use Rattle.field.specs.declared.Ending.the-variants.{None}
-use Rattle.field.specs.declared.Answer.{Answer}
-use Rattle.field.specs.declared.Started.{Started}
-use Rattle.field.specs.declared.verdict.Verdict.{Verdict}
-use Rattle.field.specs.declared.verdict.Verdict.the-variants.{Accepted, Refused}
-use Rattle.field.specs.Verdict.{startVerdict, keysVerdict}
+use Rattle.field.specs.declared.verdict.Verdict.the-variants.{Refused}
 use Rattle.field.specs.Endings.{endingOf}
 use Rattle.field.specs.Typing.{Typed, typeKeys}
-use Rattle.field.specs.Calls.{Reply, keysTyped, startCall, keysCall}
+use Rattle.field.specs.Calls.{startCall, keysCall}
 use Rattle.field.proofs.Verdicts.{start-accepted, keys-accepted}
 use Rattle.field.proofs.Reading.{goes-on, ends}
 use Rattle.field_laws.specs.Laws.{StartLimits, KeysLimits, BeepChangesNothing}
 use Rattle.field_laws.proofs.Answers.{start-not-done, keys-not-done, by-start, by-keys}
-use Rattle.field_laws.proofs.Ran.{ended?, fits-start, behind-laid, Ran, ran}
+use Rattle.field_laws.proofs.Ran.{ended?, fits-start, behind-laid, ran}
 
 pub start-limits : (width maximum : ℕ) (default b : List ℕ) → StartLimits width maximum b (startCall width maximum default b)
 start-limits width maximum default b =

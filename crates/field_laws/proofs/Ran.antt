@@ -1,13 +1,13 @@
 -- What keys that are read one after another keep, however many they are. Assumes nothing.
-use Prim.Native.Nat.{ℕ, suc, _+_, _-_, _≤_, _<_}
+use Prim.Native.Nat.{ℕ, suc, _+_, _-_, _≤_}
 use mathlib.Core.Path.{_≡_, refl, sym, ap, _∙_, subst}
 use mathlib.Core.Logic.{_⊎_, inl, inr, ⊎-elim}
-use mathlib.Core.List.{List, [], _∷_, _++_}
+use mathlib.Core.List.{List, [], _∷_}
 use native.Mathlib.Omega.{arith}
-use lib.ListN.{length, getD, take, drop}
+use lib.ListN.{length, getD, drop}
 use lib.Seq.{drop-append-add, drop-drop}
 use Rattle.editing.specs.declared.State.{State}
-use Rattle.editing.specs.Keys.{Content, Settings, Effect, press}
+use Rattle.editing.specs.Keys.{Content, Settings, press}
 use Rattle.editing.specs.Buffer.{laid, settings, contentOf, stateOf, Within, Ready}
 use Rattle.editing.proofs.Texts.{length-laid, state-content, content-laid}
 use Rattle.editing.proofs.Keeps.{keeps-press}

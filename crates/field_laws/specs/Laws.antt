@@ -1,13 +1,11 @@
 -- Paper 02, request 01: what a host of an input field can rely on, over the calls as they are promised. Assumes nothing.
-use Prim.Native.Nat.{ℕ, _+_, _-_, _≤_, _<_}
+use Prim.Native.Nat.{ℕ, _+_, _-_, _≤_}
 use mathlib.Core.Path.{_≡_}
 use mathlib.Core.List.{List, [], _∷_, _++_}
 use lib.ListN.{length, getD, drop}
-use Rattle.laws.specs.Parts.{bytesOf}
 use Rattle.reply.specs.Answers.{Answers}
 use Rattle.editing.specs.declared.State.{State}
 use Rattle.editing.specs.Buffer.{Within}
-use Rattle.field.specs.declared.Status.{Status}
 use Rattle.field.specs.declared.Status.the-variants.{Done, SizeOutOfRange, BufferTooShort, DefaultTooLong, StateOutOfRange}
 use Rattle.field.specs.declared.Ending.{Ending}
 use Rattle.field.specs.declared.Ending.the-variants.{None, Return}
@@ -15,8 +13,8 @@ use Rattle.field.specs.declared.Started.{Started}
 use Rattle.field.specs.declared.Answer.{Answer}
 use Rattle.field.specs.Statuses.{statusNumber}
 use Rattle.field.specs.Endings.{endingOf}
-use Rattle.field.specs.Rules.{Applies, Sized}
-use Rattle.field.specs.Calls.{Reply, Part, ofBuffer, ofDefault, noText, startRefused, startCall, keysRefused, keysCall, textBy, textCall}
+use Rattle.field.specs.Rules.{Applies}
+use Rattle.field.specs.Calls.{Reply, noText, startRefused, startCall, keysRefused, keysCall, textBy, textCall, textBytes}
 
 -- ---- refusals
 -- 'refusals, in order': each number exactly when its rule says, and the smallest that applies
@@ -85,12 +83,7 @@ BeepChangesNothing width maximum default buffer state key =
     keysCall width maximum default buffer state (key ∷ []) .answer .beeps ≡ 1 → (keysCall width maximum default buffer state (key ∷ []) .answer .state ≡ state) × (keysCall width maximum default buffer state (key ∷ []) .buffer ≡ buffer)
 
 -- ---- what the user has chosen
--- the bytes of a part of the lent buffer or of the lent default
-abbrev pub textBytes : Part → List ℕ → List ℕ → List ℕ
-textBytes (ofBuffer x) buffer default = bytesOf x buffer
-textBytes (ofDefault x) buffer default = bytesOf x default
-
--- .. that the text call hands back after keys that ended the field
+-- the bytes that the text call hands back after keys that ended the field
 abbrev pub chosen : ℕ → ℕ → List ℕ → Reply Answer → List ℕ
 chosen width maximum default r = textBytes (textCall width maximum (r .answer .state) (r .answer .ending) (length (r .buffer)) (length default)) (r .buffer) default
 

@@ -3,6 +3,8 @@
 mod blocks;
 mod codes;
 mod examples;
+mod field_keys;
+mod field_refusals;
 mod modes;
 mod moves;
 mod multiplexer_panes;

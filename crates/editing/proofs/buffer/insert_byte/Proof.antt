@@ -1,13 +1,12 @@
 -- `editing::buffer::insert_byte` meets its contract. The invariant: up to place i the buffer holds the byte and what was behind it, and carried is the next of them. Assumes nothing.
-use Prim.Native.Nat.{_+_, _-_}
-use mathlib.Core.Path.{_≡_}
+use Prim.Native.Nat.{_-_}
 use borrow.Author.Needs.{needs}
 use Rattle.editing.proofs.Pasting.{Inserting, insert-starts, insert-again, insert-ends}
 use Rattle.editing.proofs.buffer.insert_byte.Statement.{statement}
 use Rattle.editing.proofs.buffer.insert_byte.Tie as tie
 
 abbrev Inv-loop : tie.InvT-loop
-Inv-loop buffer₀ length at byte end carried₀ i₀ buffer carried i = (end ≡ length + 1) × Inserting buffer₀ length at byte i carried buffer
+Inv-loop buffer₀ length at byte end carried₀ i₀ buffer carried i = Inserting buffer₀ length at byte i carried buffer
 
 abbrev μ-loop : tie.MeasureT-loop
 μ-loop buffer₀ length at byte end carried₀ i₀ buffer carried i = end - i

@@ -1,13 +1,12 @@
 -- `editing::buffer::remove_byte` meets its contract. The invariant: up to place i the buffer holds what was behind the byte that is taken out. Assumes nothing.
 use Prim.Native.Nat.{_-_}
-use mathlib.Core.Path.{_≡_}
 use borrow.Author.Needs.{needs}
 use Rattle.editing.proofs.Pasting.{Removing, remove-starts, remove-again, remove-ends}
 use Rattle.editing.proofs.buffer.remove_byte.Statement.{statement}
 use Rattle.editing.proofs.buffer.remove_byte.Tie as tie
 
 abbrev Inv-loop : tie.InvT-loop
-Inv-loop buffer₀ length at end i₀ buffer i = (end ≡ length - 1) × Removing buffer₀ length at i buffer
+Inv-loop buffer₀ length at end i₀ buffer i = Removing buffer₀ length at i buffer
 
 abbrev μ-loop : tie.MeasureT-loop
 μ-loop buffer₀ length at end i₀ buffer i = end - i

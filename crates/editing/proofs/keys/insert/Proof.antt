@@ -1,4 +1,7 @@
 -- `editing::keys::insert` meets its contract: a printing key is beeped or put in. Assumes nothing.
+use Prim.Native.Nat.{_+_, _<_}
+use mathlib.Core.Path.{_≡_}
+use native.Mathlib.Omega.{arith}
 use borrow.Author.Needs.{needs}
 use Rattle.editing.proofs.Pressing.{insert-full, insert-at-width, insert-done, in-buffer}
 use Rattle.editing.proofs.keys.insert.Statement.{statement}
@@ -11,13 +14,19 @@ beeped-requires : tie.Need-beeped-requires
 beeped-requires c κs = search needs
 
 returns : tie.Need-returns
-returns c = search (insert-full, in-buffer)
+returns c =
+    let a = c .before .before .before .args in
+    let full : a .maximum < a .state .length + 1 = omega arith in
+    search (insert-full, in-buffer)
 
 beeped-requires-2 : tie.Need-beeped-requires-2
 beeped-requires-2 c κs = search needs
 
 returns-2 : tie.Need-returns-2
-returns-2 c = search (insert-at-width, in-buffer)
+returns-2 c =
+    let a = c .before .before .before .before .args in
+    let there : a .state .cursor ≡ a .width = omega arith in
+    search (insert-at-width, in-buffer)
 
 insert-byte-requires : tie.Need-insert-byte-requires
 insert-byte-requires c κs = search needs

@@ -27,7 +27,7 @@ pub record Within (width maximum : ℕ) (state : State) : Type 0 where
   pub cursor-in-text : state .cursor ≤ state .length
   pub cursor-in-field : state .cursor ≤ width
 
--- what a key needs: none of the refusals applies to these settings, this buffer and this state
+-- what a key needs: a state within its limits, and a buffer with room for a text of the maximum; the default is one
 pub record Ready (width maximum defaultLength bufferLength : ℕ) (state : State) : Type 0 where
   pub within : Within width maximum state
   pub small : maximum ≤ 254

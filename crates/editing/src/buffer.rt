@@ -7,13 +7,13 @@ ghost use lib.ListN.{length, take};
 ghost use Rattle.editing.specs.Keys.{inserted, removed, startContent};
 ghost use Rattle.editing.specs.Buffer.{laid, stateOf};
 
-// A byte is put at a place of the text, which is length bytes long, and those from there on move one place to the right.
+// A byte is put at a place of the text, whose size is in bytes, and those from there on move one place to the right.
 // The byte that was at each place is carried to the next one.
-pub fn insert_byte(buffer: &mut [u8], length: usize, at: usize, byte: u8)
-    requires { ⌜ (at ≤ length) × (length < lib.ListN.length (now buffer)) ⌝ }
-    ensures { λ _. ⌜ now (buffer .exit) ≡ laid (inserted at byte (take length (now (buffer .entry)))) (now (buffer .entry)) ⌝ }
+pub fn insert_byte(buffer: &mut [u8], size: usize, at: usize, byte: u8)
+    requires { ⌜ (at ≤ size) × (size < length (now buffer)) ⌝ }
+    ensures { λ _. ⌜ now (buffer .exit) ≡ laid (inserted at byte (take size (now (buffer .entry)))) (now (buffer .entry)) ⌝ }
 {
-    let end = length + 1;
+    let end = size + 1;
     let mut carried = byte;
     for i in at..end {
         let next = buffer[i];
@@ -23,11 +23,11 @@ pub fn insert_byte(buffer: &mut [u8], length: usize, at: usize, byte: u8)
 }
 
 // The byte at a place of the text is taken out, and those after it move one place to the left.
-pub fn remove_byte(buffer: &mut [u8], length: usize, at: usize)
-    requires { ⌜ (at < length) × (length ≤ lib.ListN.length (now buffer)) ⌝ }
-    ensures { λ _. ⌜ now (buffer .exit) ≡ laid (removed at (take length (now (buffer .entry)))) (now (buffer .entry)) ⌝ }
+pub fn remove_byte(buffer: &mut [u8], size: usize, at: usize)
+    requires { ⌜ (at < size) × (size ≤ length (now buffer)) ⌝ }
+    ensures { λ _. ⌜ now (buffer .exit) ≡ laid (removed at (take size (now (buffer .entry)))) (now (buffer .entry)) ⌝ }
 {
-    let end = length - 1;
+    let end = size - 1;
     for i in at..end {
         buffer[i] = buffer[i + 1];
     }

@@ -5,7 +5,7 @@ use super::beeped;
 use super::buffer::insert_byte;
 use super::buffer::lay_default;
 use super::buffer::remove_byte;
-ghost use Prim.Native.Nat.{_≤_, _<_};
+ghost use Prim.Native.Nat.{_≤_};
 ghost use mathlib.Core.Path.{_≡_};
 ghost use lib.ListN.{length};
 ghost use Rattle.editing.specs.Keys as rules;

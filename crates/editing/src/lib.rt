@@ -1,7 +1,7 @@
 // Paper 02, request 01: what a key does in an input field. The text lies in front of a lent buffer.
 // Here is the choice of the key; `keys` has a function for each one, and `buffer` the loops that move bytes.
 pub mod buffer;
-pub mod keys;
+mod keys;
 
 use keys::delete_all;
 use keys::delete_left;

@@ -6,10 +6,10 @@ use Rattle.editing.proofs.buffer.insert_byte.Statement.{statement}
 use Rattle.editing.proofs.buffer.insert_byte.Tie as tie
 
 abbrev Inv-loop : tie.InvT-loop
-Inv-loop buffer₀ length at byte end carried₀ i₀ buffer carried i = Inserting buffer₀ length at byte i carried buffer
+Inv-loop buffer₀ size at byte end carried₀ i₀ buffer carried i = Inserting buffer₀ size at byte i carried buffer
 
 abbrev μ-loop : tie.MeasureT-loop
-μ-loop buffer₀ length at byte end carried₀ i₀ buffer carried i = end - i
+μ-loop buffer₀ size at byte end carried₀ i₀ buffer carried i = end - i
 
 add-end : tie.Need-add-end Inv-loop μ-loop
 add-end c = search needs

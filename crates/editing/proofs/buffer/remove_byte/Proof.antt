@@ -6,10 +6,10 @@ use Rattle.editing.proofs.buffer.remove_byte.Statement.{statement}
 use Rattle.editing.proofs.buffer.remove_byte.Tie as tie
 
 abbrev Inv-loop : tie.InvT-loop
-Inv-loop buffer₀ length at end i₀ buffer i = Removing buffer₀ length at i buffer
+Inv-loop buffer₀ size at end i₀ buffer i = Removing buffer₀ size at i buffer
 
 abbrev μ-loop : tie.MeasureT-loop
-μ-loop buffer₀ length at end i₀ buffer i = end - i
+μ-loop buffer₀ size at end i₀ buffer i = end - i
 
 sub-end : tie.Need-sub-end Inv-loop μ-loop
 sub-end c = search needs

@@ -162,7 +162,7 @@ module _ (width maximum : ℕ) (default buffer : List ℕ) (state : State) (keys
         by-text width maximum default buffer state ending (λ x. x ≡ textBy ending state (length default)) (λ status e. absurd (not-both-ways e (keys-accepts width maximum (length default) (length buffer) state s w))) (λ _. refl);
   }
 
-  pub changes-nothing : (ending : Ending) → ChangesNothing width maximum default buffer state keys ending
+  pub changes-nothing : (ending : Ending) → ChangesNothing buffer state (startCall width maximum default buffer) (keysCall width maximum default buffer state keys) (textCall width maximum state ending (length buffer) (length default))
   changes-nothing ending = record {
     start-refused = by-start width maximum default buffer (λ r. (r .answer .status ≡ Done → ⊥) → r ≡ startRefused (r .answer .status) buffer) (λ status e no. refl) (λ e no. absurd (no refl));
     keys-refused = by-keys width maximum default buffer state keys (λ r. (r .answer .status ≡ Done → ⊥) → r ≡ keysRefused (r .answer .status) state buffer) (λ status e no. refl) (λ e no. absurd (no refl));

@@ -66,7 +66,7 @@ module _ (width maximum : ℕ) (default b : List ℕ) (state : State) (xs ys : L
   abbrev x : Typed
   x = typeKeys f (contentOf state b) b xs
 
-  cut-refused : (status : Status) → keysVerdict width maximum (length default) (length b) state ≡ Refused status → Cut width maximum default b state xs ys
+  cut-refused : (status : Status) → keysVerdict width maximum (length default) (length b) state ≡ Refused status → Cut (keysCall width maximum default) b state xs ys
   cut-refused status e =
       let same : (keys : List ℕ) → keysCall width maximum default b state keys ≡ keysRefused status state b = λ keys. keys-refusal width maximum default b state keys status e in
       record {
@@ -90,7 +90,7 @@ module _ (width maximum : ℕ) (default b : List ℕ) (state : State) (xs ys : L
         keys-reply width maximum default (x .buffer) (stateOf (x .content)) ys (keys-accepts width maximum (length default) (length (x .buffer)) (stateOf (x .content)) (rw (left .len) sizes) (left .fits .within))
         ∙ ap (λ (c : Content). keysTyped (typeKeys f c (x .buffer) ys)) (left .fits .front)
 
-    cut-accepted : Cut width maximum default b state xs ys
+    cut-accepted : Cut (keysCall width maximum default) b state xs ys
     cut-accepted =
         let first = keys-reply width maximum default b state xs e in
         let whole = keys-reply width maximum default b state (xs ++ ys) e in
@@ -102,5 +102,5 @@ module _ (width maximum : ℕ) (default b : List ℕ) (state : State) (xs ys : L
               whole ∙ ap keysTyped (typed-end f (contentOf state b) b xs ys (λ none. some (ap (λ (r : Reply Answer). r .answer .ending) first ∙ none))) ∙ sym first;
         }
 
-pub keys-cut : (width maximum : ℕ) (default b : List ℕ) (state : State) (xs ys : List ℕ) → Cut width maximum default b state xs ys
+pub keys-cut : (width maximum : ℕ) (default b : List ℕ) (state : State) (xs ys : List ℕ) → Cut (keysCall width maximum default) b state xs ys
 keys-cut width maximum default b state xs ys = ⊎-elim (λ r. cut-refused width maximum default b state xs ys (r .0) (r .1)) (cut-accepted width maximum default b state xs ys) (judged (keysVerdict width maximum (length default) (length b) state))

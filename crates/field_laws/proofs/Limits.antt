@@ -68,9 +68,9 @@ beeped-key f c b key one there =
     (λ some. let z = ap (λ (x : Typed). x .beeps) (ends f c b key [] (endingOf key) refl some) in absurd (omega arith))
     (ended? (endingOf key))
 
-pub beep-changes-nothing : (width maximum : ℕ) (default b : List ℕ) (state : State) (key : ℕ) → BeepChangesNothing width maximum default b state key
+pub beep-changes-nothing : (width maximum : ℕ) (default b : List ℕ) (state : State) (key : ℕ) → BeepChangesNothing b state (keysCall width maximum default b state (key ∷ []))
 beep-changes-nothing width maximum default b state key =
-    by-keys width maximum default b state (key ∷ []) (λ r. r .answer .beeps ≡ 1 → (r .answer .state ≡ state) × (r .buffer ≡ b))
+    by-keys width maximum default b state (key ∷ []) (BeepChangesNothing b state)
     (λ status e one. (refl, refl))
     (λ e one.
     let ready = keys-accepted width maximum (length default) (length b) _ state refl e in

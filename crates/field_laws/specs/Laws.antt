@@ -14,7 +14,7 @@ use Rattle.field.specs.declared.Answer.{Answer}
 use Rattle.field.specs.Statuses.{statusNumber}
 use Rattle.field.specs.Endings.{endingOf}
 use Rattle.field.specs.Rules.{Applies}
-use Rattle.field.specs.Calls.{Reply, noText, startRefused, startCall, keysRefused, keysCall, textBy, textCall, textBytes}
+use Rattle.field.specs.Calls.{Reply, Part, noText, startRefused, startCall, keysRefused, keysCall, textBy, textCall, textBytes}
 
 -- ---- refusals
 -- 'refusals, in order': each number exactly when its rule says, and the smallest that applies
@@ -29,12 +29,11 @@ pub record Accepts (width maximum : ℕ) (default buffer : List ℕ) (state : St
   pub keys-done : Within width maximum state → keysCall width maximum default buffer state keys .answer .status ≡ Done
   pub text-given : Within width maximum state → textCall width maximum state ending (length buffer) (length default) ≡ textBy ending state (length default)
 
--- 'each hands back buffer and state as they came (at the start 0, 0), counts of 0, no ending, and an empty stretch'
-pub record ChangesNothing (width maximum : ℕ) (default buffer : List ℕ) (state : State) (keys : List ℕ) (ending : Ending) : Type 0 where
-  pub start-refused : (startCall width maximum default buffer .answer .status ≡ Done → ⊥) → startCall width maximum default buffer ≡ startRefused (startCall width maximum default buffer .answer .status) buffer
-  pub keys-refused : (keysCall width maximum default buffer state keys .answer .status ≡ Done → ⊥)
-      → keysCall width maximum default buffer state keys ≡ keysRefused (keysCall width maximum default buffer state keys .answer .status) state buffer
-  pub text-refused : (keysCall width maximum default buffer state keys .answer .status ≡ Done → ⊥) → textCall width maximum state ending (length buffer) (length default) ≡ noText
+-- 'each hands back buffer and state as they came (at the start 0, 0), counts of 0, no ending, and an empty stretch': of a start, of keys, and of the text call that is given the same state
+pub record ChangesNothing (buffer : List ℕ) (state : State) (started : Reply Started) (typed : Reply Answer) (text : Part) : Type 0 where
+  pub start-refused : (started .answer .status ≡ Done → ⊥) → started ≡ startRefused (started .answer .status) buffer
+  pub keys-refused : (typed .answer .status ≡ Done → ⊥) → typed ≡ keysRefused (typed .answer .status) state buffer
+  pub text-refused : (typed .answer .status ≡ Done → ⊥) → text ≡ noText
 
 -- ---- 'keys come in a lent stream that may be cut'
 -- two calls are one: the second gets the state and the buffer that the first left
@@ -47,14 +46,10 @@ pub record SameCut (first second whole : Reply Answer) : Type 0 where
   pub read : first .answer .read + second .answer .read ≡ whole .answer .read
   pub beeps : first .answer .beeps + second .answer .beeps ≡ whole .answer .beeps
 
--- keys xs and then, unless xs ended the field, ys, are keys xs ++ ys: whatever the state
-pub record Cut (width maximum : ℕ) (default buffer : List ℕ) (state : State) (xs ys : List ℕ) : Type 0 where
-  pub goes-on : keysCall width maximum default buffer state xs .answer .ending ≡ None
-      → SameCut (keysCall width maximum default buffer state xs)
-      (keysCall width maximum default (keysCall width maximum default buffer state xs .buffer) (keysCall width maximum default buffer state xs .answer .state) ys)
-      (keysCall width maximum default buffer state (xs ++ ys))
-  pub ended : (keysCall width maximum default buffer state xs .answer .ending ≡ None → ⊥)
-      → keysCall width maximum default buffer state (xs ++ ys) ≡ keysCall width maximum default buffer state xs
+-- keys xs and then, unless xs ended the field, ys, are keys xs ++ ys: of a call that takes a buffer, a state and keys
+pub record Cut (call : List ℕ → State → List ℕ → Reply Answer) (buffer : List ℕ) (state : State) (xs ys : List ℕ) : Type 0 where
+  pub goes-on : call buffer state xs .answer .ending ≡ None → SameCut (call buffer state xs) (call (call buffer state xs .buffer) (call buffer state xs .answer .state) ys) (call buffer state (xs ++ ys))
+  pub ended : (call buffer state xs .answer .ending ≡ None → ⊥) → call buffer state (xs ++ ys) ≡ call buffer state xs
 
 -- ---- limits
 -- what a start leaves
@@ -77,10 +72,9 @@ pub record KeysLimits (width maximum : ℕ) (buffer keys : List ℕ) (r : Reply 
   pub read-ending : (r .answer .ending ≡ None → ⊥) → (1 ≤ r .answer .read) × (endingOf (getD keys (r .answer .read - 1) 0) ≡ r .answer .ending)
   pub beeps-read : r .answer .beeps ≤ r .answer .read
 
--- a beeped key changes neither text nor cursor, and no byte
-abbrev pub BeepChangesNothing : ℕ → ℕ → List ℕ → List ℕ → State → ℕ → Type 0
-BeepChangesNothing width maximum default buffer state key =
-    keysCall width maximum default buffer state (key ∷ []) .answer .beeps ≡ 1 → (keysCall width maximum default buffer state (key ∷ []) .answer .state ≡ state) × (keysCall width maximum default buffer state (key ∷ []) .buffer ≡ buffer)
+-- a beeped key changes neither text nor cursor, and no byte: of the reply to a single key
+abbrev pub BeepChangesNothing : List ℕ → State → Reply Answer → Type 0
+BeepChangesNothing buffer state r = r .answer .beeps ≡ 1 → (r .answer .state ≡ state) × (r .buffer ≡ buffer)
 
 -- ---- what the user has chosen
 -- the bytes that the text call hands back after keys that ended the field

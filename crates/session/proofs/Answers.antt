@@ -4,18 +4,13 @@ use mathlib.Core.Path.{_≡_, refl, sym}
 use mathlib.Core.List.{List, [], _∷_, _++_}
 use native.Mathlib.Omega.{arith}
 use lib.ListN.{length, drop, set, length-drop}
-use lib.Seq.{drop-drop}
+use lib.Seq.{drop-drop, sets-eq}
 use Rattle.reply.specs.Numbers.{statusNumber}
 use Rattle.session.specs.declared.Session.{Session}
 use Rattle.session.specs.Answer.{headOf, endOf}
 
 pub five-stored : (s : List ℕ) (a b c d e : ℕ) → 5 ≤ length s → set (set (set (set (set s 0 a) 1 b) 2 c) 3 d) 4 e ≡ (a ∷ b ∷ c ∷ d ∷ e ∷ []) ++ drop 5 s
-five-stored [] a b c d e h = absurd (omega arith)
-five-stored (u ∷ []) a b c d e h = absurd (omega arith)
-five-stored (u ∷ v ∷ []) a b c d e h = absurd (omega arith)
-five-stored (u ∷ v ∷ w ∷ []) a b c d e h = absurd (omega arith)
-five-stored (u ∷ v ∷ w ∷ x ∷ []) a b c d e h = absurd (omega arith)
-five-stored (u ∷ v ∷ w ∷ x ∷ y ∷ s) a b c d e h = refl
+five-stored s a b c d e h = sets-eq (a ∷ b ∷ c ∷ d ∷ e ∷ []) s 0 h
 
 -- two more, after five
 more-stored : (s : List ℕ) (a b c d e f g : ℕ) → 7 ≤ length s → set (set (a ∷ b ∷ c ∷ d ∷ e ∷ drop 5 s) 5 f) 6 g ≡ (a ∷ b ∷ c ∷ d ∷ e ∷ f ∷ g ∷ []) ++ drop 7 s

@@ -102,10 +102,10 @@ pub fn keys(
 pub fn text<'a>(
     width: usize,
     maximum: usize,
+    default: &'a [u8],
+    buffer: &'a [u8],
     state: State,
     ending: Ending,
-    buffer: &'a [u8],
-    default: &'a [u8],
 ) -> &'a [u8] {
     if refusal_with_state(width, maximum, default, buffer, state) != 0 {
         return &buffer[0..0];

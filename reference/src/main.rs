@@ -169,7 +169,7 @@ fn run_field(width: usize, maximum: usize, default: &[u8], keys: &[u8]) -> Strin
     let (status, state) = field::start(width, maximum, default, &mut buffer);
     let answer = field::keys(width, maximum, default, &mut buffer, state, keys);
     assert_eq!(answer.status, status, "the start and the keys were judged differently");
-    let text = field::text(width, maximum, answer.state, answer.ending, &buffer, default);
+    let text = field::text(width, maximum, default, &buffer, answer.state, answer.ending);
     report_field(&answer, text)
 }
 

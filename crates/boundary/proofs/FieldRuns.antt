@@ -11,8 +11,8 @@ use Rattle.editing.proofs.Texts.{copied-laid}
 use Rattle.field.specs.declared.Status.{Status}
 use Rattle.field.specs.declared.Ending.{Ending}
 use Rattle.field.specs.declared.Ending.the-variants.{None}
-use Rattle.field.specs.declared.Started.{Started}
-use Rattle.field.specs.declared.Answer.{Answer}
+use Rattle.field.specs.declared.StartAnswer.{StartAnswer}
+use Rattle.field.specs.declared.KeysAnswer.{KeysAnswer}
 use Rattle.field.specs.Statuses.{statusNumber}
 use Rattle.field.specs.Endings.{endingOf, endingKey}
 use Rattle.field.specs.Calls.{Replies, startCall, keysCall, Part, ofBuffer, ofDefault, textCall, IsText, textBytes}
@@ -32,7 +32,7 @@ module _ (width maximum : ℕ) (default b answer : List ℕ) where
   unfolding startRun
   start-short h = rw (lt-ltb (length answer) 6 h) (record { size-is = refl; lent-is = refl; answer-is = refl })
 
-  pub start-runs : (r : Started) (b′ after : List ℕ) → 6 ≤ length answer → Replies (startCall width maximum default b) r b′ → after ≡ numbersOf (r .status) (r .state) 0 0 None ++ drop 6 answer
+  pub start-runs : (r : StartAnswer) (b′ after : List ℕ) → 6 ≤ length answer → Replies (startCall width maximum default b) r b′ → after ≡ numbersOf (r .status) (r .state) 0 0 None ++ drop 6 answer
       → Runs (startRun width maximum default b answer) 6 b′ after
   unfolding startRun
   start-runs r b′ after room replies laid =
@@ -43,7 +43,7 @@ module _ (width maximum : ℕ) (default b answer : List ℕ) where
     unfolding keysRun
     keys-short h = rw (lt-ltb (length answer) 6 h) (record { size-is = refl; lent-is = refl; answer-is = refl })
 
-    pub keys-runs : (r : Answer) (b′ after : List ℕ) → 6 ≤ length answer → Replies (keysCall width maximum default b state keys) r b′
+    pub keys-runs : (r : KeysAnswer) (b′ after : List ℕ) → 6 ≤ length answer → Replies (keysCall width maximum default b state keys) r b′
         → after ≡ numbersOf (r .status) (r .state) (r .read) (r .beeps) (r .ending) ++ drop 6 answer
         → Runs (keysRun width maximum default b state keys answer) 6 b′ after
     unfolding keysRun
@@ -51,21 +51,21 @@ module _ (width maximum : ℕ) (default b answer : List ℕ) where
         rw (le-ltb (length answer) 6 room, sym (replies .answer-is)) (record { size-is = refl; lent-is = replies .bytes; answer-is = laid })
 
 -- the bytes of a part that was handed back
-text-bytes : (part : Part) (buffer default r : RefT (List ℕ)) → IsText part buffer default r → r .now ≡ textBytes part (buffer .now) (default .now)
-text-bytes (ofBuffer x) buffer default r is = is .bytes
-text-bytes (ofDefault x) buffer default r is = is .bytes
+text-bytes : (part : Part) (default buffer r : RefT (List ℕ)) → IsText part default buffer r → r .now ≡ textBytes part (default .now) (buffer .now)
+text-bytes (ofBuffer x) default buffer r is = is .bytes
+text-bytes (ofDefault x) default buffer r is = is .bytes
 
-module _ (width maximum : ℕ) (state : State) (key : ℕ) (ending : Ending) (buffer default r : RefT (List ℕ)) (answer : List ℕ) (is-ending : ending ≡ endingOf key)
-    (is : IsText (textCall width maximum state ending (length (buffer .now)) (length (default .now))) buffer default r) where
-  bytes : textBytes (textCall width maximum state (endingOf key) (length (buffer .now)) (length (default .now))) (buffer .now) (default .now) ≡ r .now
-  bytes = rw (← is-ending) (sym (text-bytes (textCall width maximum state ending (length (buffer .now)) (length (default .now))) buffer default r is))
+module _ (width maximum : ℕ) (state : State) (key : ℕ) (ending : Ending) (default buffer r : RefT (List ℕ)) (answer : List ℕ) (is-ending : ending ≡ endingOf key)
+    (is : IsText (textCall width maximum (length (default .now)) (length (buffer .now)) state ending) default buffer r) where
+  bytes : textBytes (textCall width maximum (length (default .now)) (length (buffer .now)) state (endingOf key)) (default .now) (buffer .now) ≡ r .now
+  bytes = rw (← is-ending) (sym (text-bytes (textCall width maximum (length (default .now)) (length (buffer .now)) state ending) default buffer r is))
 
-  pub text-short : length answer < length (r .now) → Runs (textRun width maximum state key (buffer .now) (default .now) answer) 0 (buffer .now) answer
+  pub text-short : length answer < length (r .now) → Runs (textRun width maximum (default .now) (buffer .now) state key answer) 0 (buffer .now) answer
   unfolding textRun
   text-short h = rw (bytes, lt-ltb (length answer) (length (r .now)) h) (record { size-is = refl; lent-is = refl; answer-is = refl })
 
   pub text-runs : (n : ℕ) (after : List ℕ) → length (r .now) ≤ length answer → n ≡ length (r .now) → after ≡ take (length (r .now)) (r .now) ++ drop (length (r .now)) answer
-      → Runs (textRun width maximum state key (buffer .now) (default .now) answer) n (buffer .now) after
+      → Runs (textRun width maximum (default .now) (buffer .now) state key answer) n (buffer .now) after
   unfolding textRun
   text-runs n after h size copied =
       rw (bytes, le-ltb (length answer) (length (r .now)) h) (record { size-is = size; lent-is = refl; answer-is = copied-laid (r .now) answer after copied })

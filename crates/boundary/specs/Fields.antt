@@ -43,5 +43,5 @@ keysRun width maximum default b state keys answer =
 abbrev pub copiedTo : List ℕ → List ℕ → List ℕ → Run
 copiedTo text b answer = cond (ltb (length answer) (length text)) (notRun b answer) (record { size = length text; lent = b; answer = laid text answer })
 
-unfoldable pub textRun : ℕ → ℕ → State → ℕ → List ℕ → List ℕ → List ℕ → Run
-textRun width maximum state ending b default answer = copiedTo (textBytes (textCall width maximum state (endingOf ending) (length b) (length default)) b default) b answer
+unfoldable pub textRun : ℕ → ℕ → List ℕ → List ℕ → State → ℕ → List ℕ → Run
+textRun width maximum default b state ending answer = copiedTo (textBytes (textCall width maximum (length default) (length b) state (endingOf ending)) default b) b answer

@@ -92,22 +92,22 @@ pub extern "C" fn combthrift_field_keys(
 pub extern "C" fn combthrift_field_text<'a>(
     width: usize,
     maximum: usize,
+    default: &'a [u8],
+    buffer: &'a [u8],
     length: usize,
     cursor: usize,
     ending: u8,
-    buffer: &'a [u8],
-    default: &'a [u8],
     answer: &mut [u8],
 ) -> usize
-    ensures { λ r. ⌜ Runs (textRun width maximum (stateAt length cursor) ending (now (buffer .entry)) (now (default .entry)) (now (answer .entry))) r (now (buffer .entry)) (now (answer .exit)) ⌝ }
+    ensures { λ r. ⌜ Runs (textRun width maximum (now (default .entry)) (now (buffer .entry)) (stateAt length cursor) ending (now (answer .entry))) r (now (buffer .entry)) (now (answer .exit)) ⌝ }
 {
     let chosen = text(
         width,
         maximum,
+        default,
+        buffer,
         State { length, cursor },
         ending_of(ending),
-        buffer,
-        default,
     );
     if answer.len() < chosen.len() {
         return 0;

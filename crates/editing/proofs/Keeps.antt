@@ -2,20 +2,20 @@
 use Prim.Native.Nat.{ℕ, _+_, _-_, _≤_, _<_}
 use mathlib.Core.Path.{_≡_, refl}
 use mathlib.Core.Bool.{Bool, true, false, cond, _||_}
-use mathlib.Core.Logic.{_⊎_, inl, inr}
+use mathlib.Core.Logic.{_⊎_, inl, inr, ⊎-elim}
 use mathlib.Core.List.{List, []}
 use native.Mathlib.Omega.{arith}
 use borrow.Author.Tests.{eqb-false, ltb-false}
 use lib.Dec.{ltb, eqb}
-use lib.ListN.{length, take}
+use lib.ListN.{length, take, drop}
 use lib.Seq.{length-take-le}
-use Rattle.laws.proofs.Tests.{by-test}
+use Rattle.laws.proofs.Tests.{by-test, or-left, or-right}
 use Rattle.editing.specs.Keys.{Content, Settings, Effect, becomes, beep, startContent, inserted, removed, insert, moveLeft, moveRight, deleteLeft, deleteUnder, deleteAll, deleteToEnd, restoreDefault, isPrintingKey, press}
-use Rattle.editing.specs.Buffer.{stateOf, Within}
-use Rattle.editing.proofs.Pressing.{length-inserted, length-removed}
+use Rattle.editing.specs.Buffer.{laid, settings, stateOf, Within, Ready}
+use Rattle.editing.proofs.Texts.{length-inserted, length-removed, length-laid, behind-laid}
 
 -- a property of each key's effect is one of every key's
-pub by-key : (P : Effect → Type 0) (f : Settings) (c : Content) (key : ℕ) → P (insert (f .width) (f .maximum) c key) → P (moveLeft c) → P (moveRight (f .width) c) → P (deleteLeft c) → P (deleteUnder c)
+by-key : (P : Effect → Type 0) (f : Settings) (c : Content) (key : ℕ) → P (insert (f .width) (f .maximum) c key) → P (moveLeft c) → P (moveRight (f .width) c) → P (deleteLeft c) → P (deleteUnder c)
     → P (deleteAll c)
     → P (deleteToEnd c)
     → P (restoreDefault (f .width) (f .default))
@@ -56,6 +56,9 @@ beeped-or-not f c key =
     (inr refl)
     (inl refl)
 
+pub beeps-once : (f : Settings) (c : Content) (key : ℕ) → press f c key .beeps ≤ 1
+beeps-once f c key = ⊎-elim (λ e. rw e (omega arith)) (λ e. omega (arith, e)) (beeped-or-not f c key)
+
 -- 'the cursor never passes the text's end or the width', nor the text the maximum
 module _ (width maximum : ℕ) where
   abbrev Keeps : Effect → Type 0
@@ -63,14 +66,6 @@ module _ (width maximum : ℕ) where
 
   within : (text : List ℕ) (cursor : ℕ) → length text ≤ maximum → cursor ≤ length text → cursor ≤ width → Keeps (becomes text cursor)
   within text cursor a b d = record { length-within = a; cursor-in-text = b; cursor-in-field = d }
-
-  or-left : (a b : Bool) → (a || b) ≡ false → a ≡ false
-  or-left true b e = e
-  or-left false b e = refl
-
-  or-right : (a b : Bool) → (a || b) ≡ false → b ≡ false
-  or-right true b e = absurd (let z : _≡_ {A = ℕ} 0 1 = cc in omega arith)
-  or-right false b e = e
 
   module _ (c : Content) (h : Within width maximum (stateOf c)) where
     keeps-insert : (key : ℕ) → Keeps (insert width maximum c key)
@@ -132,3 +127,20 @@ keeps-press f c key fits h =
     by-key (Keeps (f .width) (f .maximum)) f c key (keeps-insert w m c h key) (keeps-left w m c h) (keeps-right w m c h) (keeps-delete-left w m c h) (keeps-delete-under w m c h) (keeps-delete-all w m c h) (keeps-delete-to-end w m c h)
     (keeps-start w m (f .default) fits)
     h
+
+-- a field that is ready for a key is ready for the next one too; the buffer stays as long as it was, and no byte from the maximum on is changed
+module _ (width maximum : ℕ) (default b : List ℕ) (c : Content) (key : ℕ) (h : Ready width maximum (length default) (length b) (stateOf c)) where
+  abbrev pressed : Content
+  pressed = press (settings width maximum default) c key .content
+
+  kept : Within width maximum (stateOf pressed)
+  kept = keeps-press (settings width maximum default) c key (h .default-fits) (h .within)
+
+  pub length-pressed : length (laid (pressed .text) b) ≡ length b
+  length-pressed = length-laid (pressed .text) b (omega (arith, kept .length-within, h .room))
+
+  pub behind-pressed : drop maximum (laid (pressed .text) b) ≡ drop maximum b
+  behind-pressed = behind-laid (pressed .text) b maximum (kept .length-within)
+
+  pub ready-press : Ready width maximum (length default) (length (laid (pressed .text) b)) (stateOf pressed)
+  ready-press = rw length-pressed (record { within = kept; small = h .small; room = h .room; default-fits = h .default-fits })

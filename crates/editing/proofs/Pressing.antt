@@ -5,20 +5,13 @@ use mathlib.Core.Bool.{Bool, true, false, _||_}
 use mathlib.Core.List.{List, [], _∷_}
 use native.Mathlib.Omega.{arith}
 use borrow.Author.Tests.{eq-eqb, ne-eqb, lt-ltb, le-ltb}
-use lib.ListN.{length, take, length-append, length-drop}
+use lib.ListN.{length, take}
 use lib.Seq.{length-take-le, take-take}
 use Rattle.editing.specs.declared.State.{State}
 use Rattle.editing.specs.declared.Pressed.{Pressed}
 use Rattle.editing.specs.Keys.{Content, Settings, isPrintingKey, press, becomes, beep, inserted, removed, insert, moveLeft, moveRight, deleteLeft, deleteUnder, deleteAll, deleteToEnd, restoreDefault, startContent}
-use Rattle.editing.specs.Buffer.{laid, contentOf, stateOf, beeped, edited, Within, Presses}
-use Rattle.editing.proofs.Texts.{laid-front}
-
--- ---- lengths of an edited text
-pub length-inserted : (text : List ℕ) (at byte : ℕ) → at ≤ length text → length (inserted at byte text) ≡ length text + 1
-length-inserted text at byte h = simp (length-append, length-take-le at text h, length-drop) (omega arith)
-
-pub length-removed : (text : List ℕ) (at : ℕ) → at < length text → length (removed at text) ≡ length text - 1
-length-removed text at h = let le : at ≤ length text = omega arith in simp (length-append, length-take-le at text le, length-drop) (omega arith)
+use Rattle.editing.specs.Buffer.{laid, contentOf, stateOf, beeped, done, Within, Presses}
+use Rattle.editing.proofs.Texts.{laid-front, length-inserted, length-removed}
 
 or-true : (t : Bool) → (t || true) ≡ true
 or-true true = refl
@@ -37,13 +30,13 @@ module _ (state : State) (b : List ℕ) (fits : state .length ≤ length b) wher
 
   -- ---- a key that is beeped, and one that edits
   beeps : {r : Pressed} → r ≡ beeped state → Presses (beep (contentOf state b)) b r b
-  beeps e = record { answer = rw (e, len); bytes = sym (laid-front (state .length) b fits) }
+  beeps e = record { answer-is = rw (e, len); bytes = sym (laid-front (state .length) b fits) }
 
-  edits : {b′ : List ℕ} {r : Pressed} (new : List ℕ) (size cursor : ℕ) → r ≡ edited size cursor → length new ≡ size → b′ ≡ laid new b → Presses (becomes new cursor) b r b′
-  edits new size cursor e is bytes = record { answer = rw (e, is); bytes = bytes }
+  edits : {b′ : List ℕ} {r : Pressed} (new : List ℕ) (size cursor : ℕ) → r ≡ done size cursor → length new ≡ size → b′ ≡ laid new b → Presses (becomes new cursor) b r b′
+  edits new size cursor e is bytes = record { answer-is = rw (e, is); bytes = bytes }
 
   -- a front of the text stays
-  keeps : {r : Pressed} (size cursor : ℕ) → size ≤ state .length → r ≡ edited size cursor → Presses (becomes (take size b) cursor) b r b
+  keeps : {r : Pressed} (size cursor : ℕ) → size ≤ state .length → r ≡ done size cursor → Presses (becomes (take size b) cursor) b r b
   keeps size cursor h e = let k : size ≤ length b = omega arith in edits (take size b) size cursor e (length-take-le size b k) (sym (laid-front size b k))
 
   cut : (at : ℕ) → at < state .length → length (removed at text) ≡ state .length - 1
@@ -59,7 +52,7 @@ module _ (state : State) (b : List ℕ) (fits : state .length ≤ length b) wher
     unfolding insert
     insert-at-width h e = rw (eq-eqb _ _ h, or-true) (beeps e)
 
-    pub insert-done : (b′ : List ℕ) → state .cursor ≤ state .length → state .length + 1 ≤ maximum → (state .cursor ≡ width → ⊥) → r ≡ edited (state .length + 1) (state .cursor + 1)
+    pub insert-done : (b′ : List ℕ) → state .cursor ≤ state .length → state .length + 1 ≤ maximum → (state .cursor ≡ width → ⊥) → r ≡ done (state .length + 1) (state .cursor + 1)
         → b′ ≡ laid (inserted (state .cursor) key text) b
         → Presses (insert width maximum (contentOf state b) key) b r b′
     unfolding insert
@@ -71,7 +64,7 @@ module _ (state : State) (b : List ℕ) (fits : state .length ≤ length b) wher
     unfolding moveLeft
     left-edge h e = rw (eq-eqb _ _ h) (beeps e)
 
-    pub left-done : (state .cursor ≡ 0 → ⊥) → r ≡ edited (state .length) (state .cursor - 1) → Presses (moveLeft (contentOf state b)) b r b
+    pub left-done : (state .cursor ≡ 0 → ⊥) → r ≡ done (state .length) (state .cursor - 1) → Presses (moveLeft (contentOf state b)) b r b
     unfolding moveLeft
     left-done h e = rw (ne-eqb _ _ h) (keeps (state .length) (state .cursor - 1) (omega arith) e)
 
@@ -83,7 +76,7 @@ module _ (state : State) (b : List ℕ) (fits : state .length ≤ length b) wher
     unfolding moveRight
     right-at-width width h e = rw (eq-eqb _ width h, or-true) (beeps e)
 
-    pub right-done : (width : ℕ) → (state .cursor ≡ state .length → ⊥) → (state .cursor ≡ width → ⊥) → r ≡ edited (state .length) (state .cursor + 1) → Presses (moveRight width (contentOf state b)) b r b
+    pub right-done : (width : ℕ) → (state .cursor ≡ state .length → ⊥) → (state .cursor ≡ width → ⊥) → r ≡ done (state .length) (state .cursor + 1) → Presses (moveRight width (contentOf state b)) b r b
     unfolding moveRight
     right-done width h k e = rw (len, ne-eqb _ _ h, ne-eqb _ width k) (keeps (state .length) (state .cursor + 1) (omega arith) e)
 
@@ -91,7 +84,7 @@ module _ (state : State) (b : List ℕ) (fits : state .length ≤ length b) wher
     unfolding deleteLeft
     delete-left-edge h e = rw (eq-eqb _ _ h) (beeps e)
 
-    pub delete-left-done : (b′ : List ℕ) → state .cursor ≤ state .length → (state .cursor ≡ 0 → ⊥) → r ≡ edited (state .length - 1) (state .cursor - 1) → b′ ≡ laid (removed (state .cursor - 1) text) b
+    pub delete-left-done : (b′ : List ℕ) → state .cursor ≤ state .length → (state .cursor ≡ 0 → ⊥) → r ≡ done (state .length - 1) (state .cursor - 1) → b′ ≡ laid (removed (state .cursor - 1) text) b
         → Presses (deleteLeft (contentOf state b)) b r b′
     unfolding deleteLeft
     delete-left-done b′ within h e bytes = rw (ne-eqb _ _ h) (edits _ _ _ e (cut (state .cursor - 1) (omega arith)) bytes)
@@ -100,7 +93,7 @@ module _ (state : State) (b : List ℕ) (fits : state .length ≤ length b) wher
     unfolding deleteUnder
     delete-under-end h e = rw (len, eq-eqb _ _ h) (beeps e)
 
-    pub delete-under-done : (b′ : List ℕ) → state .cursor ≤ state .length → (state .cursor ≡ state .length → ⊥) → r ≡ edited (state .length - 1) (state .cursor) → b′ ≡ laid (removed (state .cursor) text) b
+    pub delete-under-done : (b′ : List ℕ) → state .cursor ≤ state .length → (state .cursor ≡ state .length → ⊥) → r ≡ done (state .length - 1) (state .cursor) → b′ ≡ laid (removed (state .cursor) text) b
         → Presses (deleteUnder (contentOf state b)) b r b′
     unfolding deleteUnder
     delete-under-done b′ within h e bytes = rw (len, ne-eqb _ _ h) (edits _ _ _ e (cut (state .cursor) (omega arith)) bytes)
@@ -109,7 +102,7 @@ module _ (state : State) (b : List ℕ) (fits : state .length ≤ length b) wher
     unfolding deleteAll
     delete-all-empty h e = rw (len, eq-eqb _ _ h) (beeps e)
 
-    pub delete-all-done : (state .length ≡ 0 → ⊥) → r ≡ edited 0 0 → Presses (deleteAll (contentOf state b)) b r b
+    pub delete-all-done : (state .length ≡ 0 → ⊥) → r ≡ done 0 0 → Presses (deleteAll (contentOf state b)) b r b
     unfolding deleteAll
     delete-all-done h e = rw (len, ne-eqb _ _ h) (keeps 0 0 (omega arith) e)
 
@@ -117,13 +110,13 @@ module _ (state : State) (b : List ℕ) (fits : state .length ≤ length b) wher
     unfolding deleteToEnd
     delete-to-end-none h e = rw (len, eq-eqb _ _ h) (beeps e)
 
-    pub delete-to-end-done : state .cursor ≤ state .length → (state .cursor ≡ state .length → ⊥) → r ≡ edited (state .cursor) (state .cursor) → Presses (deleteToEnd (contentOf state b)) b r b
+    pub delete-to-end-done : state .cursor ≤ state .length → (state .cursor ≡ state .length → ⊥) → r ≡ done (state .cursor) (state .cursor) → Presses (deleteToEnd (contentOf state b)) b r b
     unfolding deleteToEnd
     delete-to-end-done within h e = rw (len, ne-eqb _ _ h, take-take _ _ b within) (keeps (state .cursor) (state .cursor) within e)
 
 pub default-restored : (width : ℕ) (default b b′ : List ℕ) (r : Pressed) (s : State) → s ≡ stateOf (startContent width default) → r ≡ record { state = s; beeps = 0 } → b′ ≡ laid default b → Presses (restoreDefault width default) b r b′
 unfolding restoreDefault
-default-restored width default b b′ r s is e bytes = record { answer = rw (e, is); bytes = bytes }
+default-restored width default b b′ r s is e bytes = record { answer-is = rw (e, is); bytes = bytes }
 
 -- ---- the choice of the key
 -- an arm for a single key, where the choice computes

@@ -5,17 +5,24 @@ use mathlib.Core.List.{List, [], _∷_, _++_}
 use native.Mathlib.Numerals.{unary-clauses}
 use native.Mathlib.Omega.{arith}
 use lib.ListN.{length, take, drop, length-append, length-drop, take-append-drop}
-use lib.Seq.{length-take-le, take-nil, drop-nil, take-take, take-length, take-at, length-paste-head, paste}
+use lib.Seq.{drop-append-add, drop-drop, length-take-le, take-nil, drop-nil, take-take, take-length, take-at, length-paste-head, paste}
 use Rattle.editing.specs.declared.State.{State}
 use Rattle.editing.specs.Keys.{Content, inserted, removed}
 use Rattle.editing.specs.Buffer.{laid, contentOf, stateOf}
 
 -- a part of a front
-pub drop-take : (n m : ℕ) (b : List ℕ) → drop n (take m b) ≡ take (m - n) (drop n b)
+drop-take : (n m : ℕ) (b : List ℕ) → drop n (take m b) ≡ take (m - n) (drop n b)
 drop-take zero m b = simp unary-clauses
 drop-take (suc n) zero b = let none : zero - suc n ≡ zero = omega arith in rw none
 drop-take (suc n) (suc m) [] = simp (take-nil, drop-nil)
 drop-take (suc n) (suc m) (x ∷ b) = simp unary-clauses (drop-take n m b)
+
+-- lengths of an edited text
+pub length-inserted : (text : List ℕ) (at byte : ℕ) → at ≤ length text → length (inserted at byte text) ≡ length text + 1
+length-inserted text at byte h = simp (length-append, length-take-le at text h, length-drop) (omega arith)
+
+pub length-removed : (text : List ℕ) (at : ℕ) → at < length text → length (removed at text) ≡ length text - 1
+length-removed text at h = let le : at ≤ length text = omega arith in simp (length-append, length-take-le at text le, length-drop) (omega arith)
 
 -- a front of the buffer, laid over it, is there already
 pub laid-front : (n : ℕ) (b : List ℕ) → n ≤ length b → laid (take n b) b ≡ b
@@ -30,6 +37,13 @@ length-laid text b h = simp (length-append, length-drop) (omega arith)
 pub take-laid : (text b : List ℕ) → take (length text) (laid text b) ≡ text
 unfolding laid
 take-laid text b = take-at text (drop (length text) b) (length text) refl
+
+-- a text that is laid over a buffer changes no byte behind it
+pub behind-laid : (text b : List ℕ) (n : ℕ) → length text ≤ n → drop n (laid text b) ≡ drop n b
+unfolding laid
+behind-laid text b n h =
+    let place : length text + (n - length text) ≡ n = omega arith in
+    rw place at (drop-append-add text (drop (length text) b) (n - length text) ∙ drop-drop (n - length text) (length text) b)
 
 -- from a state to its text and back, and from a text that was laid over the buffer
 pub state-content : (state : State) (b : List ℕ) → state .length ≤ length b → stateOf (contentOf state b) ≡ state

@@ -27,23 +27,23 @@ pub record Within (width maximum : ℕ) (state : State) : Type 0 where
   pub cursor-in-text : state .cursor ≤ state .length
   pub cursor-in-field : state .cursor ≤ width
 
--- what a key needs: a state within its limits, and a buffer with room for a text of the maximum; the default is one
+-- what a key needs: a state within its limits, and a buffer with room for any text, the default too. A length and one more fit a machine word by `small`
 pub record Ready (width maximum defaultLength bufferLength : ℕ) (state : State) : Type 0 where
   pub within : Within width maximum state
   pub small : maximum ≤ 254
   pub room : maximum ≤ bufferLength
   pub default-fits : defaultLength ≤ maximum
 
--- what a key that is beeped answers, and one that edits
+-- what a key that is beeped answers, and one that is done
 abbrev pub beeped : State → Pressed
 beeped state = record { state = state; beeps = 1 }
 
-abbrev pub edited : ℕ → ℕ → Pressed
-edited length cursor = record { state = record { length = length; cursor = cursor }; beeps = 0 }
+abbrev pub done : ℕ → ℕ → Pressed
+done length cursor = record { state = record { length = length; cursor = cursor }; beeps = 0 }
 
 -- what a key's function promises: the state and the beeps of the key's effect, and its text laid over the buffer b
 pub record Presses (e : Effect) (b : List ℕ) (r : Pressed) (b′ : List ℕ) : Type 0 where
-  pub answer : r ≡ record { state = stateOf (e .content); beeps = e .beeps }
+  pub answer-is : r ≡ record { state = stateOf (e .content); beeps = e .beeps }
   pub bytes : b′ ≡ laid (e .content .text) b
 
 -- the same of one that stores no byte: whatever a buffer with this text holds, it stays

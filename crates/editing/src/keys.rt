@@ -9,10 +9,10 @@ ghost use Prim.Native.Nat.{_≤_};
 ghost use mathlib.Core.Path.{_≡_};
 ghost use lib.ListN.{length};
 ghost use Rattle.editing.specs.Keys as rules;
-ghost use Rattle.editing.specs.Buffer.{edited, contentOf, Within, Presses, PressesAny};
+ghost use Rattle.editing.specs.Buffer.{done, contentOf, Within, Presses, PressesAny};
 
-fn edited(length: usize, cursor: usize) -> Pressed
-    ensures { λ r. ⌜ r ≡ edited length cursor ⌝ }
+fn done(length: usize, cursor: usize) -> Pressed
+    ensures { λ r. ⌜ r ≡ done length cursor ⌝ }
 {
     Pressed {
         state: State { length, cursor },
@@ -34,7 +34,7 @@ pub fn insert(width: usize, maximum: usize, buffer: &mut [u8], state: State, key
         return beeped(state);
     }
     insert_byte(buffer, length, cursor, key);
-    edited(length + 1, cursor + 1)
+    done(length + 1, cursor + 1)
 }
 
 // LEFT-ARROW.
@@ -44,7 +44,7 @@ pub fn move_left(state: State) -> Pressed
     if state.cursor == 0 {
         return beeped(state);
     }
-    edited(state.length, state.cursor - 1)
+    done(state.length, state.cursor - 1)
 }
 
 // RIGHT-ARROW.
@@ -58,7 +58,7 @@ pub fn move_right(width: usize, state: State) -> Pressed
     if state.cursor == width {
         return beeped(state);
     }
-    edited(state.length, state.cursor + 1)
+    done(state.length, state.cursor + 1)
 }
 
 // CONTROL-D and DELETE.
@@ -72,7 +72,7 @@ pub fn delete_left(buffer: &mut [u8], state: State) -> Pressed
         return beeped(state);
     }
     remove_byte(buffer, length, cursor - 1);
-    edited(length - 1, cursor - 1)
+    done(length - 1, cursor - 1)
 }
 
 // CONTROL-F.
@@ -86,7 +86,7 @@ pub fn delete_under(buffer: &mut [u8], state: State) -> Pressed
         return beeped(state);
     }
     remove_byte(buffer, length, cursor);
-    edited(length - 1, cursor)
+    done(length - 1, cursor)
 }
 
 // CONTROL-X.
@@ -96,7 +96,7 @@ pub fn delete_all(state: State) -> Pressed
     if state.length == 0 {
         return beeped(state);
     }
-    edited(0, 0)
+    done(0, 0)
 }
 
 // CONTROL-Y.
@@ -107,7 +107,7 @@ pub fn delete_to_end(state: State) -> Pressed
     if state.cursor == state.length {
         return beeped(state);
     }
-    edited(state.cursor, state.cursor)
+    done(state.cursor, state.cursor)
 }
 
 // CONTROL-Z.

@@ -1,8 +1,8 @@
 -- The ending keys. Assumes nothing.
 use Prim.Native.Nat.{ℕ}
-use mathlib.Core.Path.{_≡_}
+use mathlib.Core.Path.{_≡_, refl}
 use mathlib.Core.List.{[], _∷_}
-use mathlib.Core.Logic.{⊎-elim}
+use mathlib.Core.Logic.{_⊎_, inl, inr, ⊎-elim}
 use native.Mathlib.Omega.{arith}
 use types.Run.{OneOf}
 use denote.Enum.Declared.{tagOf}
@@ -19,8 +19,20 @@ pub is-escape : (key : ℕ) → key ≡ 0x1b → Escape ≡ endingOf key
 unfolding endingOf
 is-escape key e = rw e
 
--- what is left where it is not the first case of three
+return-is-one : Return ≡ None → ⊥
+return-is-one e = let z : _≡_ {A = ℕ} 0 1 = cc in omega arith
+
+escape-is-one : Escape ≡ None → ⊥
+escape-is-one e = let z : _≡_ {A = ℕ} 0 1 = cc in omega arith
+
+-- an ending, or none
+pub ended? : (ending : Ending) → (ending ≡ None) ⊎ (ending ≡ None → ⊥)
+ended? None = inl refl
+ended? Return = inr return-is-one
+ended? Escape = inr escape-is-one
+
+-- an ending whose tag is that of Return or of Escape is not None
 pub not-none : (ending : Ending) → OneOf (1 ∷ 2 ∷ []) (tagOf the-type ending) → ending ≡ None → ⊥
 not-none None one e = ⊎-elim (λ h. omega arith) (λ h. omega arith) one
-not-none Return one e = let z : _≡_ {A = ℕ} 0 1 = cc in omega arith
-not-none Escape one e = let z : _≡_ {A = ℕ} 0 1 = cc in omega arith
+not-none Return one e = return-is-one e
+not-none Escape one e = escape-is-one e

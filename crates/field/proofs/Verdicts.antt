@@ -6,7 +6,7 @@ use mathlib.Core.Bool.{Bool, true, false, cond, _||_}
 use mathlib.Core.Logic.{_⊎_, inl, inr}
 use borrow.Author.Tests.{ltb-false}
 use lib.Dec.{ltb}
-use Rattle.laws.proofs.Tests.{Decides, decides-lt, decides-either, not-both}
+use Rattle.laws.proofs.Tests.{Decides, decides-lt, decides-either, not-both, or-left, or-right}
 use Rattle.editing.specs.declared.State.{State}
 use Rattle.editing.specs.Buffer.{Within, Ready}
 use Rattle.field.specs.declared.Status.{Status}
@@ -17,7 +17,7 @@ use Rattle.field.specs.Verdict.{outOfRange, startVerdict, stateVerdict, 
 use Rattle.field.specs.Rules.{OutOfRange, Sized, PastLimits}
 
 -- ---- the tests of the rules
-pub decides-range : (size : ℕ) → Decides (outOfRange size) (OutOfRange size)
+decides-range : (size : ℕ) → Decides (outOfRange size) (OutOfRange size)
 unfolding outOfRange
 decides-range size = decides-either (decides-lt size 1) (decides-lt 254 size)
 
@@ -53,10 +53,6 @@ both-accepted Accepted b e = (refl, e)
 within-range : (size : ℕ) → outOfRange size ≡ false → (1 ≤ size) × (size ≤ 254)
 within-range size e = let no-low : size < 1 → ⊥ = λ h. not-both (decides-range size .passes (inl h)) e in let no-high : 254 < size → ⊥ = λ h. not-both (decides-range size .passes (inr h)) e in (omega arith, omega arith)
 
-or-false : (a b : Bool) → (a || b) ≡ false → (a ≡ false) × (b ≡ false)
-or-false true b e = absurd (not-both refl e)
-or-false false b e = (refl, e)
-
 module _ (width maximum default buffer : ℕ) where
   sized-by : startVerdict width maximum default buffer ≡ Accepted → Sized width maximum default buffer
   unfolding startVerdict
@@ -64,9 +60,8 @@ module _ (width maximum default buffer : ℕ) where
       let one = unrefused (outOfRange width || outOfRange maximum) SizeOutOfRange _ e in
       let two = unrefused (ltb buffer maximum) BufferTooShort _ (one .1) in
       let three = unrefused (ltb maximum default) DefaultTooLong _ (two .1) in
-      let sizes = or-false (outOfRange width) (outOfRange maximum) (one .0) in
-      let w = within-range width (sizes .0) in
-      let m = within-range maximum (sizes .1) in
+      let w = within-range width (or-left _ _ (one .0)) in
+      let m = within-range maximum (or-right (outOfRange width) _ (one .0)) in
       record {
         width-low = w .0;
         width-high = w .1;
@@ -80,9 +75,12 @@ module _ (width maximum default buffer : ℕ) where
   unfolding stateVerdict
   within-by state e =
       let none = unrefused _ StateOutOfRange Accepted e .0 in
-      let one = or-false (ltb maximum (state .length)) _ none in
-      let two = or-false (ltb (state .length) (state .cursor)) _ (one .1) in
-      record { length-within = ltb-false _ _ (one .0); cursor-in-text = ltb-false _ _ (two .0); cursor-in-field = ltb-false _ _ (two .1) }
+      let cursor = or-right (ltb maximum (state .length)) _ none in
+      record {
+        length-within = ltb-false _ _ (or-left _ _ none);
+        cursor-in-text = ltb-false _ _ (or-left _ _ cursor);
+        cursor-in-field = ltb-false _ _ (or-right (ltb (state .length) (state .cursor)) _ cursor);
+      }
 
   -- by what a function answered
   pub start-accepted : (v : Verdict) → v ≡ startVerdict width maximum default buffer → v ≡ Accepted → Sized width maximum default buffer
@@ -99,12 +97,9 @@ module _ (width maximum default buffer : ℕ) where
       let sizes = sized-by (both .0) in
       record { within = within-by state (both .1); small = sizes .maximum-high; room = sizes .room; default-fits = sizes .default-fits }
 
-  -- so the default lies in the buffer, and the text does
+  -- so the default lies in the buffer
   pub default-in-buffer : (v : Verdict) → v ≡ startVerdict width maximum default buffer → v ≡ Accepted → default ≤ buffer
   default-in-buffer v is e = let sizes = start-accepted v is e in omega (arith, sizes .default-fits, sizes .room)
-
-  pub text-in-buffer : (v : Verdict) (state : State) → v ≡ keysVerdict width maximum default buffer state → v ≡ Accepted → state .length ≤ buffer
-  text-in-buffer v state is e = let ready = keys-accepted v state is e in omega (arith, ready .within .length-within, ready .room)
 
 -- ---- a property of what a refused call gives, and of what one that is made does, is one of the call
 pub by-verdict : {A : Type 0} (P : A → Type 0) (refused : Status → A) (made : A) (v : Verdict) → ((status : Status) → v ≡ Refused status → P (refused status)) → (v ≡ Accepted → P made) → P (onVerdict v refused made)

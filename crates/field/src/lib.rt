@@ -70,13 +70,13 @@ pub fn ending_key(ending: Ending) -> u8
 }
 
 // What a start hands back.
-pub struct Started {
+pub struct StartAnswer {
     pub status: Status,
     pub state: State,
 }
 
 // What a call with keys hands back: the state, how many keys were read and how many of them beeped, and the ending.
-pub struct Answer {
+pub struct KeysAnswer {
     pub status: Status,
     pub state: State,
     pub read: usize,
@@ -85,29 +85,29 @@ pub struct Answer {
 }
 
 // The text becomes the default.
-pub fn start(width: usize, maximum: usize, default: &[u8], buffer: &mut [u8]) -> Started
+pub fn start(width: usize, maximum: usize, default: &[u8], buffer: &mut [u8]) -> StartAnswer
     ensures { λ r. ⌜ Replies (startCall width maximum (now (default .entry)) (now (buffer .entry))) r (now (buffer .exit)) ⌝ }
 {
     let verdict = start_verdict(width, maximum, default.len(), buffer.len());
     match verdict {
-        Verdict::Refused(status) => Started {
+        Verdict::Refused(status) => StartAnswer {
             status,
             state: State {
                 length: 0,
                 cursor: 0,
             },
         },
-        Verdict::Accepted => Started {
+        Verdict::Accepted => StartAnswer {
             status: Status::Done,
             state: lay_default(width, default, buffer),
         },
     }
 }
 
-fn answer_of(status: Status, state: State, read: usize, beeps: usize, ending: Ending) -> Answer
+fn answer_of(status: Status, state: State, read: usize, beeps: usize, ending: Ending) -> KeysAnswer
     ensures { λ r. ⌜ r ≡ answerOf status state read beeps ending ⌝ }
 {
-    Answer {
+    KeysAnswer {
         status,
         state,
         read,
@@ -124,11 +124,11 @@ fn type_keys(
     buffer: &mut [u8],
     state: State,
     keys: &[u8],
-) -> Answer
+) -> KeysAnswer
     requires { ⌜ Ready width maximum (length (now default)) (length (now buffer)) state ⌝ }
     ensures { λ r. ⌜ Replies (keysTyped (rules.typeKeys (settings width maximum (now (default .entry))) (contentOf state (now (buffer .entry))) (now (buffer .entry)) (now (keys .entry)))) r (now (buffer .exit)) ⌝ }
 {
-    let mut now = state;
+    let mut current = state;
     let mut beeps = 0;
     let mut read = 0;
     while read < keys.len() {
@@ -136,14 +136,14 @@ fn type_keys(
         read += 1;
         let ending = ending_of(key);
         if let Ending::None = ending {
-            let pressed = press(width, maximum, default, buffer, now, key);
-            now = pressed.state;
+            let pressed = press(width, maximum, default, buffer, current, key);
+            current = pressed.state;
             beeps += pressed.beeps;
         } else {
-            return answer_of(Status::Done, now, read, beeps, ending);
+            return answer_of(Status::Done, current, read, beeps, ending);
         }
     }
-    answer_of(Status::Done, now, read, beeps, Ending::None)
+    answer_of(Status::Done, current, read, beeps, Ending::None)
 }
 
 // Reads keys, with the state that the last call handed back.
@@ -154,7 +154,7 @@ pub fn keys(
     buffer: &mut [u8],
     state: State,
     keys: &[u8],
-) -> Answer
+) -> KeysAnswer
     ensures { λ r. ⌜ Replies (keysCall width maximum (now (default .entry)) (now (buffer .entry)) state (now (keys .entry))) r (now (buffer .exit)) ⌝ }
 {
     let verdict = keys_verdict(width, maximum, default.len(), buffer.len(), state);
@@ -176,12 +176,12 @@ fn front(text: &[u8], count: usize) -> &[u8]
 pub fn text<'a>(
     width: usize,
     maximum: usize,
+    default: &'a [u8],
+    buffer: &'a [u8],
     state: State,
     ending: Ending,
-    buffer: &'a [u8],
-    default: &'a [u8],
 ) -> &'a [u8]
-    ensures { λ r. ⌜ IsText (textCall width maximum state ending (length (now (buffer .entry))) (length (now (default .entry)))) (buffer .entry) (default .entry) r ⌝ }
+    ensures { λ r. ⌜ IsText (textCall width maximum (length (now (default .entry))) (length (now (buffer .entry))) state ending) (default .entry) (buffer .entry) r ⌝ }
 {
     let verdict = keys_verdict(width, maximum, default.len(), buffer.len(), state);
     match verdict {

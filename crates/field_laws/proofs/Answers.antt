@@ -21,8 +21,8 @@ use Rattle.field.specs.declared.verdict.Verdict.the-variants.{Accepted, Refused
 use Rattle.field.specs.Statuses.{statusNumber}
 use Rattle.field.specs.Verdict.{outOfRange, startVerdict, stateVerdict, firstOf, keysVerdict, onVerdict}
 use Rattle.field.specs.Rules.{Applies, Sized}
-use Rattle.field.specs.declared.Started.{Started}
-use Rattle.field.specs.declared.Answer.{Answer}
+use Rattle.field.specs.declared.StartAnswer.{StartAnswer}
+use Rattle.field.specs.declared.KeysAnswer.{KeysAnswer}
 use Rattle.field.specs.Typing.{typeKeys}
 use Rattle.field.specs.Calls.{Reply, Part, noText, startRefused, started, startCall, keysRefused, keysTyped, keysCall, textBy, textCall}
 use Rattle.field.proofs.Verdicts.{decides-sizes, decides-limits, by-verdict}
@@ -104,14 +104,14 @@ module _ (width maximum default buffer : ℕ) where
 
 -- ---- each call: a property of its refusals and of what it makes is one of the call
 module _ (width maximum : ℕ) (default buffer : List ℕ) where
-  pub by-start : (P : Reply Started → Type 0) → ((status : Status) → startVerdict width maximum (length default) (length buffer) ≡ Refused status → P (startRefused status buffer))
+  pub by-start : (P : Reply StartAnswer → Type 0) → ((status : Status) → startVerdict width maximum (length default) (length buffer) ≡ Refused status → P (startRefused status buffer))
       → (startVerdict width maximum (length default) (length buffer) ≡ Accepted → P (started width default buffer))
       → P (startCall width maximum default buffer)
   unfolding startCall
   by-start P = by-verdict P (λ status. startRefused status buffer) (started width default buffer) (startVerdict width maximum (length default) (length buffer))
 
   module _ (state : State) where
-    pub by-keys : (keys : List ℕ) (P : Reply Answer → Type 0) → ((status : Status) → keysVerdict width maximum (length default) (length buffer) state ≡ Refused status → P (keysRefused status state buffer))
+    pub by-keys : (keys : List ℕ) (P : Reply KeysAnswer → Type 0) → ((status : Status) → keysVerdict width maximum (length default) (length buffer) state ≡ Refused status → P (keysRefused status state buffer))
         → (keysVerdict width maximum (length default) (length buffer) state ≡ Accepted → P (keysTyped (typeKeys (settings width maximum default) (contentOf state buffer) buffer keys)))
         → P (keysCall width maximum default buffer state keys)
     unfolding keysCall
@@ -119,10 +119,15 @@ module _ (width maximum : ℕ) (default buffer : List ℕ) where
         by-verdict P (λ status. keysRefused status state buffer) (keysTyped (typeKeys (settings width maximum default) (contentOf state buffer) buffer keys)) (keysVerdict width maximum (length default) (length buffer) state)
 
     pub by-text : (ending : Ending) (P : Part → Type 0) → ((status : Status) → keysVerdict width maximum (length default) (length buffer) state ≡ Refused status → P noText)
-        → (keysVerdict width maximum (length default) (length buffer) state ≡ Accepted → P (textBy ending state (length default)))
-        → P (textCall width maximum state ending (length buffer) (length default))
+        → (keysVerdict width maximum (length default) (length buffer) state ≡ Accepted → P (textBy (length default) state ending))
+        → P (textCall width maximum (length default) (length buffer) state ending)
     unfolding textCall
-    by-text ending P = by-verdict P (λ status. noText) (textBy ending state (length default)) (keysVerdict width maximum (length default) (length buffer) state)
+    by-text ending P = by-verdict P (λ status. noText) (textBy (length default) state ending) (keysVerdict width maximum (length default) (length buffer) state)
+
+    pub text-accepted : (ending : Ending) → keysVerdict width maximum (length default) (length buffer) state ≡ Accepted
+        → textCall width maximum (length default) (length buffer) state ending ≡ textBy (length default) state ending
+    unfolding textCall onVerdict
+    text-accepted ending e = rw e
 
     pub keys-refusal : (keys : List ℕ) (status : Status) → keysVerdict width maximum (length default) (length buffer) state ≡ Refused status → keysCall width maximum default buffer state keys ≡ keysRefused status state buffer
     unfolding keysCall onVerdict
@@ -132,9 +137,6 @@ module _ (width maximum : ℕ) (default buffer : List ℕ) where
         → keysCall width maximum default buffer state keys ≡ keysTyped (typeKeys (settings width maximum default) (contentOf state buffer) buffer keys)
     unfolding keysCall onVerdict
     keys-reply keys e = rw e
-
-not-both-ways : {v : Verdict} {status : Status} → v ≡ Refused status → v ≡ Accepted → ⊥
-not-both-ways e f = let z : _≡_ {A = ℕ} 0 1 = cc in omega arith
 
 module _ (width maximum : ℕ) (default buffer : List ℕ) (state : State) (keys : List ℕ) where
   start-status : startCall width maximum default buffer .answer .status ≡ verdictStatus (startVerdict width maximum (length default) (length buffer))
@@ -154,15 +156,14 @@ module _ (width maximum : ℕ) (default buffer : List ℕ) (state : State) (keys
     typing = answers-first refl (omega arith) (rw keys-status (keys-first width maximum (length default) (length buffer) state));
   }
 
-  pub accepts : (ending : Ending) → Sized width maximum (length default) (length buffer) → Accepts width maximum default buffer state keys ending
-  accepts ending s = record {
-    start-done = start-status ∙ ap verdictStatus (start-accepts width maximum (length default) (length buffer) state s);
-    keys-done = λ w. keys-status ∙ ap verdictStatus (keys-accepts width maximum (length default) (length buffer) state s w);
-    text-given = λ w.
-        by-text width maximum default buffer state ending (λ x. x ≡ textBy ending state (length default)) (λ status e. absurd (not-both-ways e (keys-accepts width maximum (length default) (length buffer) state s w))) (λ _. refl);
+  pub accepts : (ending : Ending) → Accepts width maximum default buffer state keys ending
+  accepts ending = record {
+    start-done = λ s. start-status ∙ ap verdictStatus (start-accepts width maximum (length default) (length buffer) state s);
+    keys-done = λ s w. keys-status ∙ ap verdictStatus (keys-accepts width maximum (length default) (length buffer) state s w);
+    text-given = λ s w. text-accepted width maximum default buffer state ending (keys-accepts width maximum (length default) (length buffer) state s w);
   }
 
-  pub changes-nothing : (ending : Ending) → ChangesNothing buffer state (startCall width maximum default buffer) (keysCall width maximum default buffer state keys) (textCall width maximum state ending (length buffer) (length default))
+  pub changes-nothing : (ending : Ending) → ChangesNothing buffer state (startCall width maximum default buffer) (keysCall width maximum default buffer state keys) (textCall width maximum (length default) (length buffer) state ending)
   changes-nothing ending = record {
     start-refused = by-start width maximum default buffer (λ r. (r .answer .status ≡ Done → ⊥) → r ≡ startRefused (r .answer .status) buffer) (λ status e no. refl) (λ e no. absurd (no refl));
     keys-refused = by-keys width maximum default buffer state keys (λ r. (r .answer .status ≡ Done → ⊥) → r ≡ keysRefused (r .answer .status) state buffer) (λ status e no. refl) (λ e no. absurd (no refl));

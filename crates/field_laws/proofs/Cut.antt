@@ -9,7 +9,7 @@ use Rattle.editing.specs.Keys.{Content, Settings, press}
 use Rattle.editing.specs.Buffer.{laid, settings, contentOf, stateOf}
 use Rattle.field.specs.declared.Status.{Status}
 use Rattle.field.specs.declared.Ending.the-variants.{None}
-use Rattle.field.specs.declared.Answer.{Answer}
+use Rattle.field.specs.declared.KeysAnswer.{KeysAnswer}
 use Rattle.field.specs.declared.verdict.Verdict.the-variants.{Accepted, Refused}
 use Rattle.field.specs.Verdict.{keysVerdict}
 use Rattle.field.specs.Rules.{Sized}
@@ -17,10 +17,11 @@ use Rattle.field.specs.Endings.{endingOf}
 use Rattle.field.specs.Typing.{Typed, after, typeKeys}
 use Rattle.field.specs.Calls.{Reply, keysRefused, keysTyped, keysCall}
 use Rattle.field.proofs.Verdicts.{keys-sized, keys-accepted}
+use Rattle.field.proofs.Endings.{ended?}
 use Rattle.field.proofs.Reading.{after-nothing, after-after, goes-on, ends}
 use Rattle.field_laws.specs.Laws.{Cut}
 use Rattle.field_laws.proofs.Answers.{judged, keys-refusal, keys-reply, keys-accepts}
-use Rattle.field_laws.proofs.Ran.{ended?, Fits, Ran, fits-start, ran}
+use Rattle.field_laws.proofs.Ran.{Ran, ran}
 
 -- what keys ys leave after others that left x
 abbrev then : Settings → Typed → List ℕ → Typed
@@ -71,24 +72,21 @@ module _ (width maximum : ℕ) (default b : List ℕ) (state : State) (xs ys : L
       let same : (keys : List ℕ) → keysCall width maximum default b state keys ≡ keysRefused status state b = λ keys. keys-refusal width maximum default b state keys status e in
       record {
         goes-on = λ _. rw (same xs, same (xs ++ ys), same ys) (record { first-status = refl; second-status = refl; state = refl; buffer = refl; ending = refl; read = refl; beeps = refl });
-        ended = λ some. absurd (some (ap (λ (r : Reply Answer). r .answer .ending) (same xs)));
+        ended = λ some. absurd (some (ap (λ (r : Reply KeysAnswer). r .answer .ending) (same xs)));
       }
 
   module _ (e : keysVerdict width maximum (length default) (length b) state ≡ Accepted) where
     sizes : Sized width maximum (length default) (length b)
     sizes = keys-sized width maximum (length default) (length b) _ state refl e
 
-    found : Fits f (contentOf state b) b
-    found = fits-start width maximum default b state (keys-accepted width maximum (length default) (length b) _ state refl e)
-
-    left : Ran f b xs x
-    left = ran f (contentOf state b) b xs found
+    left : Ran width maximum default b xs x
+    left = ran width maximum default b state xs (keys-accepted width maximum (length default) (length b) _ state refl e)
 
     -- the second call is accepted too, and goes on from what the first left
     second : keysCall width maximum default (x .buffer) (stateOf (x .content)) ys ≡ keysTyped (typeKeys f (x .content) (x .buffer) ys)
     second =
-        keys-reply width maximum default (x .buffer) (stateOf (x .content)) ys (keys-accepts width maximum (length default) (length (x .buffer)) (stateOf (x .content)) (rw (left .len) sizes) (left .fits .within))
-        ∙ ap (λ (c : Content). keysTyped (typeKeys f c (x .buffer) ys)) (left .fits .front)
+        keys-reply width maximum default (x .buffer) (stateOf (x .content)) ys (keys-accepts width maximum (length default) (length (x .buffer)) (stateOf (x .content)) (rw (left .len) sizes) (left .ready .within))
+        ∙ ap (λ (c : Content). keysTyped (typeKeys f c (x .buffer) ys)) (left .front)
 
     cut-accepted : Cut (keysCall width maximum default) b state xs ys
     cut-accepted =
@@ -96,10 +94,10 @@ module _ (width maximum : ℕ) (default b : List ℕ) (state : State) (xs ys : L
         let whole = keys-reply width maximum default b state (xs ++ ys) e in
         record {
           goes-on = λ none.
-              rw (first, second, whole, typed-on f (contentOf state b) b xs ys (ap (λ (r : Reply Answer). r .answer .ending) (sym first) ∙ none))
+              rw (first, second, whole, typed-on f (contentOf state b) b xs ys (ap (λ (r : Reply KeysAnswer). r .answer .ending) (sym first) ∙ none))
               (record { first-status = refl; second-status = refl; state = refl; buffer = refl; ending = refl; read = refl; beeps = refl });
           ended = λ some.
-              whole ∙ ap keysTyped (typed-end f (contentOf state b) b xs ys (λ none. some (ap (λ (r : Reply Answer). r .answer .ending) first ∙ none))) ∙ sym first;
+              whole ∙ ap keysTyped (typed-end f (contentOf state b) b xs ys (λ none. some (ap (λ (r : Reply KeysAnswer). r .answer .ending) first ∙ none))) ∙ sym first;
         }
 
 pub keys-cut : (width maximum : ℕ) (default b : List ℕ) (state : State) (xs ys : List ℕ) → Cut (keysCall width maximum default) b state xs ys

@@ -5,20 +5,24 @@ use mathlib.Core.Path.{_≡_, refl, ap, _∙_}
 use mathlib.Core.Logic.{⊎-elim}
 use mathlib.Core.List.{List, [], _∷_}
 use lib.ListN.{length}
+use lib.Seq.{length-take-le}
 use Rattle.editing.specs.declared.State.{State}
 use Rattle.editing.specs.Keys.{Content, Settings, Effect}
-use Rattle.editing.specs.Buffer.{laid, settings, contentOf, stateOf}
-use Rattle.editing.proofs.Texts.{laid-front, length-laid, state-content}
+use Rattle.editing.specs.Buffer.{laid, settings, contentOf, stateOf, Ready}
+use Rattle.editing.proofs.Texts.{laid-front, length-laid, behind-laid, state-content}
 use Rattle.editing.proofs.Keeps.{keeps-start, beeped-or-not}
 use Rattle.field.specs.declared.verdict.Verdict.the-variants.{Refused}
+use Rattle.field.specs.declared.Ending.{Ending}
+use Rattle.field.specs.declared.Ending.the-variants.{None, Return, Escape}
 use Rattle.field.specs.Endings.{endingOf}
 use Rattle.field.specs.Typing.{Typed, typeKeys}
-use Rattle.field.specs.Calls.{startCall, keysCall}
+use Rattle.field.specs.Calls.{startCall, keysCall, textBy, textBytes}
 use Rattle.field.proofs.Verdicts.{start-accepted, keys-accepted}
+use Rattle.field.proofs.Endings.{ended?}
 use Rattle.field.proofs.Reading.{goes-on, ends}
-use Rattle.field_laws.specs.Laws.{StartLimits, KeysLimits, BeepChangesNothing}
-use Rattle.field_laws.proofs.Answers.{start-not-done, keys-not-done, by-start, by-keys}
-use Rattle.field_laws.proofs.Ran.{ended?, fits-start, behind-laid, ran}
+use Rattle.field_laws.specs.Laws.{StartLimits, KeysLimits, BeepChangesNothing, TextLimit}
+use Rattle.field_laws.proofs.Answers.{start-not-done, keys-not-done, by-start, by-keys, by-text}
+use Rattle.field_laws.proofs.Ran.{ran}
 
 pub start-limits : (width maximum : ℕ) (default b : List ℕ) → StartLimits width maximum b (startCall width maximum default b)
 start-limits width maximum default b =
@@ -41,9 +45,9 @@ keys-limits width maximum default b state keys =
       beeps-read = omega arith;
     })
     (λ e.
-    let r = ran (settings width maximum default) (contentOf state b) b keys (fits-start width maximum default b state (keys-accepted width maximum (length default) (length b) _ state refl e)) in
+    let r = ran width maximum default b state keys (keys-accepted width maximum (length default) (length b) _ state refl e) in
     record {
-      within = λ _. r .fits .within;
+      within = λ _. r .ready .within;
       behind = r .behind;
       len = r .len;
       read-lent = r .read-lent;
@@ -77,3 +81,14 @@ beep-changes-nothing width maximum default b state key =
     let inside : state .length ≤ length b = omega (arith, ready .within, ready .room) in
     let k = beeped-key (settings width maximum default) (contentOf state b) b key one (laid-front (state .length) b inside) in
     (ap stateOf (k .0) ∙ state-content state b inside, k .1))
+
+pub text-limit : (width maximum : ℕ) (default b : List ℕ) (state : State) (ending : Ending) → TextLimit width maximum default b state ending
+text-limit width maximum default b state ending =
+    by-text width maximum default b state ending (λ x. length (textBytes x default b) ≤ maximum)
+    (λ status e. omega arith)
+    (λ e. given ending (keys-accepted width maximum (length default) (length b) _ state refl e))
+  where
+    given : (ending : Ending) → Ready width maximum (length default) (length b) state → length (textBytes (textBy (length default) state ending) default b) ≤ maximum
+    given None h = omega arith
+    given Return h = let len = length-take-le (state .length) b (omega (arith, h .within, h .room)) in omega (arith, h .within)
+    given Escape h = omega (arith, length-take-le (length default) default (omega arith), h .default-fits)

@@ -34,6 +34,15 @@ and-right false b e = cc
 pub and-both : (a b : Bool) → a ≡ true → b ≡ true → (a && b) ≡ true
 and-both a b p q = simp (p, q)
 
+-- neither of two tests is true
+pub or-left : (a b : Bool) → (a || b) ≡ false → a ≡ false
+or-left true b e = e
+or-left false b e = refl
+
+pub or-right : (a b : Bool) → (a || b) ≡ false → b ≡ false
+or-right true b e = absurd (not-both refl e)
+or-right false b e = e
+
 -- a test is true exactly when a fact holds
 pub record Decides (t : Bool) (P : Type 0) : Type 0 where
   pub holds : t ≡ true → P

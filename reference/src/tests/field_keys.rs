@@ -34,7 +34,7 @@ impl Host {
     }
 
     fn text(&self, ending: Ending) -> &[u8] {
-        text(self.width, self.maximum, self.state, ending, &self.buffer, &self.default)
+        text(self.width, self.maximum, &self.default, &self.buffer, self.state, ending)
     }
 }
 

@@ -42,7 +42,7 @@ fn check_refused(lent: Lent, status: u8) {
         assert_eq!(buffer, buffer_of(lent.buffer), "{:?}", lent);
     }
     for ending in [Ending::None, Ending::Return, Ending::Escape] {
-        let stretch = text(width, maximum, state, ending, &buffer, &default);
+        let stretch = text(width, maximum, &default, &buffer, state, ending);
         assert!(stretch.is_empty(), "{:?}", lent);
     }
     if status != 19 {
@@ -60,9 +60,9 @@ fn check_served(lent: Lent) {
     let answer = keys(width, maximum, &default, &mut buffer, state, b"\x00\r");
     let wanted = Answer { status: 0, state, read: 2, beeps: 1, ending: Ending::Return };
     assert_eq!(answer, wanted, "{:?}", lent);
-    let stretch = text(width, maximum, state, Ending::Return, &buffer, &default);
+    let stretch = text(width, maximum, &default, &buffer, state, Ending::Return);
     assert_eq!(stretch, buffer_of(state.length), "{:?}", lent);
-    let stretch = text(width, maximum, state, Ending::Escape, &buffer, &default);
+    let stretch = text(width, maximum, &default, &buffer, state, Ending::Escape);
     assert_eq!(stretch, default, "{:?}", lent);
     assert_eq!(start(width, maximum, &default, &mut buffer).0, 0, "{:?}", lent);
 }

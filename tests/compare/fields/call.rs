@@ -32,6 +32,14 @@ impl Call {
         }
     }
 
+    /// The keys that are handed over; none by another kind of call.
+    pub fn keys(&self) -> &[u8] {
+        match &self.action {
+            Action::Keys { keys, .. } => keys,
+            _ => &[],
+        }
+    }
+
     /// How many places are lent for an answer that needs so many.
     pub fn room(&self, needed: usize) -> usize {
         (needed as isize + self.spare).max(0) as usize

@@ -9,6 +9,7 @@ use super::run::{Field, Step};
 use super::situations::Situations;
 use super::statuses::Statuses;
 use super::subject::{Subject, NUMBERS};
+use crate::field::State;
 
 pub struct Coverage {
     statuses: Statuses,
@@ -29,7 +30,8 @@ impl Coverage {
 
     /// Notes what a run's calls reach by the reference. Tells in words
     /// where it gives another status, text length or count of beeps than
-    /// it should, or another outcome for keys that are cut.
+    /// it should, or another outcome for keys that are cut, and where it
+    /// changes what should stay.
     pub fn follow(&mut self, field: &Field, steps: &[Step]) -> Result<(), String> {
         for (place, step) in steps.iter().enumerate() {
             let now = Moment::new(field, step);
@@ -40,6 +42,7 @@ impl Coverage {
 
     fn see(&mut self, now: &Moment) -> Result<(), String> {
         let kind = now.step.call.kind();
+        check_behind(now)?;
         self.limits.see(now);
         if kind == 2 {
             check_text(now)?;
@@ -49,7 +52,10 @@ impl Coverage {
             // Nothing is done, so nothing more is reached.
             return Ok(());
         }
-        self.statuses.note(kind, &now.applying);
+        // A refusal shows in a text call only by the text held back.
+        if kind != 2 || now.status() == 0 || now.would_show(now.ending()) {
+            self.statuses.note(kind, &now.applying);
+        }
         self.situations.see(now);
         self.follow_keys(now)
     }
@@ -57,9 +63,10 @@ impl Coverage {
     /// Notes each key that is read, by the keys cut.
     fn follow_keys(&mut self, now: &Moment) -> Result<(), String> {
         let mut judged = Ok(());
-        let outcome = cut(Subject::Reference, now.field, now.step, |state, key, answer| {
+        let outcome = cut(Subject::Reference, now.field, now.step, |press, answer, buffer| {
             if answer[0] == 0 && judged.is_ok() {
-                judged = self.effects.note(&Press { field: now.field, state, key }, answer[4]);
+                let noted = self.effects.note(press, answer[4]);
+                judged = noted.and_then(|()| check_beep(press, answer, buffer));
             }
         });
         judged?;
@@ -113,4 +120,27 @@ fn check_text(now: &Moment) -> Result<(), String> {
         return Ok(());
     }
     Err(format!("a text of {} bytes and not {}", given, wanted))
+}
+
+/// Whatever the call, the buffer stays from the maximum on.
+fn check_behind(now: &Moment) -> Result<(), String> {
+    let (before, after) = (&now.step.before.buffer, &now.step.outcome.buffer);
+    match (now.field.maximum..before.len()).find(|&place| before[place] != after[place]) {
+        None => Ok(()),
+        Some(place) => Err(format!("byte {} of the buffer, past the maximum, changed", place)),
+    }
+}
+
+/// A key that beeps changes neither the state nor the buffer.
+fn check_beep(press: &Press, answer: &[usize], buffer: &[u8]) -> Result<(), String> {
+    let State { length, cursor } = press.state;
+    let state_stays = answer[1..3] == [length, cursor];
+    if answer[4] == 0 || state_stays && buffer == press.buffer {
+        return Ok(());
+    }
+    let changed = if state_stays { "buffer" } else { "state" };
+    Err(format!(
+        "key {:02x} beeped at length {}, cursor {}, but the {} changed",
+        press.key, length, cursor, changed
+    ))
 }

@@ -6,6 +6,7 @@ use crate::field::State;
 /// A key that an accepted call reads, and what is there before it.
 pub struct Press<'a> {
     pub field: &'a Field,
+    pub buffer: &'a [u8],
     pub state: State,
     pub key: u8,
 }

@@ -59,10 +59,7 @@ impl Moment<'_> {
     }
 
     pub fn keys(&self) -> usize {
-        match &self.step.call.action {
-            Action::Keys { keys, .. } => keys.len(),
-            _ => 0,
-        }
+        self.step.call.keys().len()
     }
 
     pub fn keys_read(&self) -> usize {
@@ -80,10 +77,20 @@ impl Moment<'_> {
         left && self.step.last_ending == ending && self.keys_read() > 0
     }
 
-    /// That the buffer is changed, but not behind the maximum.
-    pub fn stays_behind(&self) -> bool {
-        let (before, after) = (&self.step.before.buffer, &self.step.outcome.buffer);
-        let maximum = self.field.maximum;
-        before.len() > maximum && before != after && before[maximum..] == after[maximum..]
+    /// That the buffer is longer than the maximum, and changed.
+    pub fn changes_longer(&self) -> bool {
+        self.buffer() > self.field.maximum && self.step.before.buffer != self.step.outcome.buffer
+    }
+
+    /// That the text of an ending has bytes and the lent answer room for
+    /// them, so that it would show where it is not to be handed back. The
+    /// buffer has no text of a length past its own.
+    pub fn would_show(&self, ending: u8) -> bool {
+        let text = match ending {
+            0x0D if self.length() <= self.buffer() => self.length(),
+            0x1B => self.default(),
+            _ => 0,
+        };
+        text > 0 && text <= self.lent()
     }
 }

@@ -28,7 +28,7 @@ pub fn difference(field: &Field, steps: &[Step]) -> Option<String> {
 }
 
 /// What is wrong with an outcome that is not the step's: result, answer
-/// and buffer.
+/// and all else that was lent.
 pub fn faults(step: &Step, given: &Outcome) -> String {
     let wanted = &step.outcome;
     let mut faults = Vec::new();
@@ -43,6 +43,8 @@ pub fn faults(step: &Step, given: &Outcome) -> String {
         }
     }
     faults.extend(byte_fault(&wanted.buffer, &given.buffer, "the buffer"));
+    faults.extend(byte_fault(&wanted.default, &given.default, "the default"));
+    faults.extend(byte_fault(&wanted.keys, &given.keys, "the keys"));
     faults.join("; ")
 }
 

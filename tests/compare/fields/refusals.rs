@@ -4,7 +4,8 @@
 use super::run::{Field, Position};
 
 /// The statuses that can be reached, by kind of call. A text has none of
-/// its own: what is counted is the refusal that makes it empty.
+/// its own: what is counted is the refusal that makes it empty, where the
+/// text held back would show.
 pub const REACHABLE: [&[u8]; 3] = [&[0, 11, 12, 13], &[0, 11, 12, 13, 19], &[0, 11, 12, 13, 19]];
 
 const ON_A_STATE: &[(u8, u8)] = &[(11, 12), (11, 13), (11, 19), (12, 13), (12, 19), (13, 19)];

@@ -19,7 +19,7 @@ const STARTS: [Situation; 11] = [
     ("buffer empty", 12, |now| now.buffer() == 0),
     ("buffer one too short", 12, |now| now.buffer() + 1 == now.field.maximum),
     ("buffer as long as the maximum", 0, |now| now.buffer() == now.field.maximum),
-    ("buffer longer, its bytes behind stay", 0, |now| now.stays_behind()),
+    ("buffer longer, and changed", 0, |now| now.changes_longer()),
     ("after an ending", 0, |now| now.step.last_ending != 0),
 ];
 
@@ -29,7 +29,7 @@ const KEYS: [Situation; 22] = [
     ("width equal to the maximum", 0, |now| now.field.width == now.field.maximum),
     ("width above the maximum", 0, |now| now.field.width > now.field.maximum),
     ("buffer as long as the maximum", 0, |now| now.buffer() == now.field.maximum),
-    ("buffer longer, its bytes behind stay", 0, |now| now.stays_behind()),
+    ("buffer longer, and changed", 0, |now| now.changes_longer()),
     ("text beyond the width", 0, |now| now.length() > now.field.width),
     ("the longest text there is", 0, |now| now.length() == 254),
     ("length at the maximum", 0, |now| now.length() == now.field.maximum),
@@ -48,28 +48,30 @@ const KEYS: [Situation; 22] = [
     ("cursor far past", 19, |now| now.cursor() == usize::MAX),
 ];
 
+/// Where the answer is to be empty, a wrong text would show, if there is
+/// a text and a place is lent at all.
 const TEXTS: [Situation; 26] = [
     ("Return", 0, |now| now.ending() == 0x0D && now.length() > 0),
-    ("Return, nothing typed", 0, |now| now.ending() == 0x0D && now.length() == 0),
+    ("Return, nothing typed", 0, |now| returns_nothing(now)),
     ("Return, text beyond the width", 0, |now| returns_beyond(now)),
     ("Escape", 0, |now| now.ending() == 0x1B && now.default() > 0),
-    ("Escape, default empty", 0, |now| now.ending() == 0x1B && now.default() == 0),
-    ("no ending", 0, |now| now.ending() == 0 && full(now)),
+    ("Escape, default empty", 0, |now| escapes_to_nothing(now)),
+    ("no ending", 0, |now| now.ending() == 0 && either_shows(now)),
     ("no ending, both texts empty", 0, |now| now.ending() == 0 && empty(now)),
-    ("a key that does not end", 0, |now| no_ending(now) && full(now)),
+    ("a key that does not end", 0, |now| no_ending(now) && either_shows(now)),
     ("the Return just read", 0, |now| now.ending() == 0x0D && now.step.last_ending == 0x0D),
     ("the Escape just read", 0, |now| now.ending() == 0x1B && now.step.last_ending == 0x1B),
-    ("Return, refused", 19, |now| now.ending() == 0x0D && now.length() > 0),
-    ("Return, nothing typed, refused", 19, |now| now.ending() == 0x0D && now.length() == 0),
-    ("Escape, refused", 19, |now| now.ending() == 0x1B && now.default() > 0),
-    ("Escape, default empty, refused", 19, |now| now.ending() == 0x1B && now.default() == 0),
-    ("no ending, refused", 19, |now| now.ending() == 0 && full(now)),
+    ("Return, refused", 19, |now| now.ending() == 0x0D && shows(now)),
+    ("Return, nothing typed, refused", 19, |now| returns_nothing(now)),
+    ("Escape, refused", 19, |now| now.ending() == 0x1B && shows(now)),
+    ("Escape, default empty, refused", 19, |now| escapes_to_nothing(now)),
+    ("no ending, refused", 19, |now| now.ending() == 0 && either_shows(now)),
     ("no ending, both texts empty, refused", 19, |now| now.ending() == 0 && empty(now)),
-    ("only the length past the maximum", 19, |now| now.breaks(0)),
-    ("only the cursor past the length", 19, |now| now.breaks(1)),
-    ("only the cursor past the width", 19, |now| now.breaks(2)),
-    ("length far past", 19, |now| now.length() == usize::MAX),
-    ("cursor far past", 19, |now| now.cursor() == usize::MAX),
+    ("only the length past the maximum", 19, |now| now.breaks(0) && shows(now)),
+    ("only the cursor past the length", 19, |now| now.breaks(1) && shows(now)),
+    ("only the cursor past the width", 19, |now| now.breaks(2) && shows(now)),
+    ("length far past", 19, |now| now.length() == usize::MAX && shows(now)),
+    ("cursor far past", 19, |now| now.cursor() == usize::MAX && shows(now)),
     ("no answer lent", 0, |now| now.text_length() > 1 && now.lent() == 0),
     ("no answer lent, none needed", 0, |now| now.text_length() == 0 && now.lent() == 0),
     ("answer lent one too short", 0, |now| now.text_length() == now.lent() + 1),
@@ -85,9 +87,25 @@ fn no_ending(now: &Moment) -> bool {
     ![0, 0x0D, 0x1B].contains(&now.ending())
 }
 
-/// Both texts have bytes.
-fn full(now: &Moment) -> bool {
-    now.length() > 0 && now.default() > 0
+/// The text of the ending would show; without an ending there is none.
+fn shows(now: &Moment) -> bool {
+    now.would_show(now.ending())
+}
+
+/// Both texts have bytes, and the shorter one would show.
+fn either_shows(now: &Moment) -> bool {
+    let full = now.length() > 0 && now.default() > 0;
+    full && (now.would_show(0x0D) || now.would_show(0x1B))
+}
+
+/// Nothing was typed, and the default would show.
+fn returns_nothing(now: &Moment) -> bool {
+    now.ending() == 0x0D && now.length() == 0 && now.would_show(0x1B)
+}
+
+/// The default is empty, and what was typed would show.
+fn escapes_to_nothing(now: &Moment) -> bool {
+    now.ending() == 0x1B && now.default() == 0 && now.would_show(0x0D)
 }
 
 fn empty(now: &Moment) -> bool {

@@ -19,13 +19,16 @@ pub enum Subject {
     Library,
 }
 
-/// The result, and all that was lent to be written, after a call.
+/// The result, and all that was lent, after a call.
 #[derive(PartialEq, Eq)]
 pub struct Outcome {
     pub result: usize,
     /// Six numbers or the bytes of a text, then what else was lent.
     pub answer: Vec<usize>,
     pub buffer: Vec<u8>,
+    /// Only to be read, as a text's buffer is.
+    pub default: Vec<u8>,
+    pub keys: Vec<u8>,
 }
 
 impl Outcome {
@@ -37,24 +40,25 @@ impl Outcome {
 
 impl Subject {
     pub fn make(self, field: &Field, before: &Position, call: &Call) -> Outcome {
-        let mut buffer = before.buffer.clone();
+        let (mut field, mut before) = (field.clone(), before.clone());
+        let mut keys = call.keys().to_vec();
         let mut answer = vec![LENT as usize; call.room(NUMBERS)];
         let result = match &call.action {
-            Action::Start => self.start(field, &mut buffer, &mut answer),
-            Action::Keys { keys, .. } => {
-                self.keys(field, &mut buffer, before.state, keys, &mut answer)
+            Action::Start => self.start(&mut field, &mut before.buffer, &mut answer),
+            Action::Keys { .. } => {
+                self.keys(&mut field, &mut before.buffer, before.state, &mut keys, &mut answer)
             }
             Action::Text { .. } => {
-                let mut bytes = vec![LENT; call.room(text_length(field, before))];
-                let result = self.text(field, before, &mut bytes);
+                let mut bytes = vec![LENT; call.room(text_length(&field, &before))];
+                let result = self.text(&mut field, &mut before, &mut bytes);
                 answer = bytes.into_iter().map(usize::from).collect();
                 result
             }
         };
-        Outcome { result, answer, buffer }
+        Outcome { result, answer, buffer: before.buffer, default: field.default, keys }
     }
 
-    fn start(self, field: &Field, buffer: &mut [u8], answer: &mut [usize]) -> usize {
+    fn start(self, field: &mut Field, buffer: &mut [u8], answer: &mut [usize]) -> usize {
         let Field { width, maximum, default } = field;
         match self {
             Subject::Library => library::field_start(*width, *maximum, default, buffer, answer),
@@ -69,10 +73,10 @@ impl Subject {
 
     pub fn keys(
         self,
-        field: &Field,
+        field: &mut Field,
         buffer: &mut [u8],
         state: State,
-        keys: &[u8],
+        keys: &mut [u8],
         answer: &mut [usize],
     ) -> usize {
         let Field { width, maximum, default } = field;
@@ -95,12 +99,12 @@ impl Subject {
         }
     }
 
-    fn text(self, field: &Field, before: &Position, answer: &mut [u8]) -> usize {
-        let Field { width, maximum, default } = field;
-        let Position { buffer, state, ending } = before;
+    fn text(self, field: &mut Field, before: &mut Position, answer: &mut [u8]) -> usize {
         match self {
             Subject::Library => {
-                library::field_text(*width, *maximum, *state, *ending, buffer, default, answer)
+                let Field { width, maximum, default } = field;
+                let Position { buffer, state, ending } = before;
+                library::field_text(*width, *maximum, default, buffer, *state, *ending, answer)
             }
             Subject::Reference => to_front(handed_back(field, before), answer),
         }
@@ -114,7 +118,8 @@ fn handed_back<'a>(field: &'a Field, before: &'a Position) -> &'a [u8] {
         0x1B => Ending::Escape,
         _ => Ending::None,
     };
-    field::text(field.width, field.maximum, before.state, ending, &before.buffer, &field.default)
+    let (width, maximum) = (field.width, field.maximum);
+    field::text(width, maximum, &field.default, &before.buffer, before.state, ending)
 }
 
 /// Copies all to the front and gives the length; 0 if there is no room.

@@ -1,4 +1,5 @@
-//! The library's calls on an input field.
+//! The library's calls on an input field. What a call should only read is
+//! lent mutably too, so that a change of it is one that Rust knows of.
 
 use crate::field::State;
 
@@ -32,13 +33,13 @@ extern "C" {
     fn combthrift_field_text(
         width: usize,
         maximum: usize,
+        default: *const u8,
+        default_length: usize,
+        buffer: *const u8,
+        buffer_length: usize,
         length: usize,
         cursor: usize,
         ending: u8,
-        buffer: *const u8,
-        buffer_length: usize,
-        default: *const u8,
-        default_length: usize,
         answer: *mut u8,
         answer_length: usize,
     ) -> usize;
@@ -50,7 +51,7 @@ extern "C" {
 pub fn field_start(
     width: usize,
     maximum: usize,
-    default: &[u8],
+    default: &mut [u8],
     buffer: &mut [u8],
     answer: &mut [usize],
 ) -> usize {
@@ -58,7 +59,7 @@ pub fn field_start(
         combthrift_field_start(
             width,
             maximum,
-            default.as_ptr(),
+            default.as_mut_ptr(),
             default.len(),
             buffer.as_mut_ptr(),
             buffer.len(),
@@ -73,23 +74,23 @@ pub fn field_start(
 pub fn field_keys(
     width: usize,
     maximum: usize,
-    default: &[u8],
+    default: &mut [u8],
     buffer: &mut [u8],
     state: State,
-    keys: &[u8],
+    keys: &mut [u8],
     answer: &mut [usize],
 ) -> usize {
     unsafe {
         combthrift_field_keys(
             width,
             maximum,
-            default.as_ptr(),
+            default.as_mut_ptr(),
             default.len(),
             buffer.as_mut_ptr(),
             buffer.len(),
             state.length,
             state.cursor,
-            keys.as_ptr(),
+            keys.as_mut_ptr(),
             keys.len(),
             answer.as_mut_ptr(),
             answer.len(),
@@ -103,23 +104,23 @@ pub fn field_keys(
 pub fn field_text(
     width: usize,
     maximum: usize,
+    default: &mut [u8],
+    buffer: &mut [u8],
     state: State,
     ending: u8,
-    buffer: &[u8],
-    default: &[u8],
     answer: &mut [u8],
 ) -> usize {
     unsafe {
         combthrift_field_text(
             width,
             maximum,
+            default.as_mut_ptr(),
+            default.len(),
+            buffer.as_mut_ptr(),
+            buffer.len(),
             state.length,
             state.cursor,
             ending,
-            buffer.as_ptr(),
-            buffer.len(),
-            default.as_ptr(),
-            default.len(),
             answer.as_mut_ptr(),
             answer.len(),
         )

@@ -1,6 +1,7 @@
 -- `field::text` meets its contract: the verdict, and where it accepts, the part that the ending chooses. Assumes nothing.
+use native.Mathlib.Omega.{arith}
 use borrow.Author.Needs.{needs}
-use Rattle.field.proofs.Verdicts.{text-in-buffer}
+use Rattle.field.proofs.Verdicts.{keys-accepted}
 use Rattle.field.proofs.Replying.{text-refused, text-none, text-typed, text-default}
 use Rattle.field.proofs.text.Statement.{statement}
 use Rattle.field.proofs.text.Tie as tie
@@ -27,7 +28,10 @@ enum-told-4 : tie.Need-enum-told-4
 enum-told-4 c = search needs
 
 front-requires-3 : tie.Need-front-requires-3
-front-requires-3 c κs = search text-in-buffer
+front-requires-3 c κs =
+    let found = c .before .before .before .before in
+    let ready = keys-accepted _ _ _ _ _ _ (found .keys-verdict .ensures) (c .before .before .enum-told2 .given .1) in
+    omega (arith, ready .within, ready .room)
 
 enum-told-5 : tie.Need-enum-told-5
 enum-told-5 c = search needs

@@ -16,14 +16,14 @@ sub-remove-byte c = search needs
 remove-byte-requires : tie.Need-remove-byte-requires
 remove-byte-requires c κs = search needs
 
-sub-edited : tie.Need-sub-edited
-sub-edited c = search needs
+sub-done : tie.Need-sub-done
+sub-done c = search needs
 
-sub-edited-2 : tie.Need-sub-edited-2
-sub-edited-2 c = search needs
+sub-done-2 : tie.Need-sub-done-2
+sub-done-2 c = search needs
 
-edited-requires : tie.Need-edited-requires
-edited-requires c κs = search needs
+done-requires : tie.Need-done-requires
+done-requires c κs = search needs
 
 same-length : tie.Need-same-length
 same-length c = search needs
@@ -39,8 +39,8 @@ delete-left-spec =
     returns
     sub-remove-byte
     remove-byte-requires
-    sub-edited
-    sub-edited-2
-    edited-requires
+    sub-done
+    sub-done-2
+    done-requires
     same-length
     returns-2)

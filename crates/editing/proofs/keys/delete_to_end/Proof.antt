@@ -10,11 +10,11 @@ beeped-requires c κs = search needs
 returns : tie.Need-returns
 returns c = search delete-to-end-none
 
-edited-requires : tie.Need-edited-requires
-edited-requires c κs = search needs
+done-requires : tie.Need-done-requires
+done-requires c κs = search needs
 
 returns-2 : tie.Need-returns-2
 returns-2 c = search delete-to-end-done
 
 pub delete-to-end-spec : {M : Type 1} → statement M
-delete-to-end-spec = tie.close (tie.spec beeped-requires returns edited-requires returns-2)
+delete-to-end-spec = tie.close (tie.spec beeped-requires returns done-requires returns-2)

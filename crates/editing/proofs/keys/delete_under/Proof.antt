@@ -13,11 +13,11 @@ returns c = search delete-under-end
 remove-byte-requires : tie.Need-remove-byte-requires
 remove-byte-requires c κs = search needs
 
-sub-edited : tie.Need-sub-edited
-sub-edited c = search needs
+sub-done : tie.Need-sub-done
+sub-done c = search needs
 
-edited-requires : tie.Need-edited-requires
-edited-requires c κs = search needs
+done-requires : tie.Need-done-requires
+done-requires c κs = search needs
 
 same-length : tie.Need-same-length
 same-length c = search needs
@@ -32,7 +32,7 @@ delete-under-spec =
     beeped-requires
     returns
     remove-byte-requires
-    sub-edited
-    edited-requires
+    sub-done
+    done-requires
     same-length
     returns-2)

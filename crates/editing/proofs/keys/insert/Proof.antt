@@ -31,14 +31,14 @@ returns-2 c =
 insert-byte-requires : tie.Need-insert-byte-requires
 insert-byte-requires c κs = search needs
 
-add-edited : tie.Need-add-edited
-add-edited c = search needs
+add-done : tie.Need-add-done
+add-done c = search needs
 
-add-edited-2 : tie.Need-add-edited-2
-add-edited-2 c = search needs
+add-done-2 : tie.Need-add-done-2
+add-done-2 c = search needs
 
-edited-requires : tie.Need-edited-requires
-edited-requires c κs = search needs
+done-requires : tie.Need-done-requires
+done-requires c κs = search needs
 
 same-length : tie.Need-same-length
 same-length c = search needs
@@ -56,8 +56,8 @@ insert-spec =
     beeped-requires-2
     returns-2
     insert-byte-requires
-    add-edited
-    add-edited-2
-    edited-requires
+    add-done
+    add-done-2
+    done-requires
     same-length
     returns-3)

@@ -10,14 +10,14 @@ beeped-requires c κs = search needs
 returns : tie.Need-returns
 returns c = search left-edge
 
-sub-edited : tie.Need-sub-edited
-sub-edited c = search needs
+sub-done : tie.Need-sub-done
+sub-done c = search needs
 
-edited-requires : tie.Need-edited-requires
-edited-requires c κs = search needs
+done-requires : tie.Need-done-requires
+done-requires c κs = search needs
 
 returns-2 : tie.Need-returns-2
 returns-2 c = search left-done
 
 pub move-left-spec : {M : Type 1} → statement M
-move-left-spec = tie.close (tie.spec beeped-requires returns sub-edited edited-requires returns-2)
+move-left-spec = tie.close (tie.spec beeped-requires returns sub-done done-requires returns-2)

@@ -16,11 +16,11 @@ beeped-requires-2 c κs = search needs
 returns-2 : tie.Need-returns-2
 returns-2 c = search right-at-width
 
-add-edited : tie.Need-add-edited
-add-edited c = search needs
+add-done : tie.Need-add-done
+add-done c = search needs
 
-edited-requires : tie.Need-edited-requires
-edited-requires c κs = search needs
+done-requires : tie.Need-done-requires
+done-requires c κs = search needs
 
 returns-3 : tie.Need-returns-3
 returns-3 c = search right-done
@@ -33,6 +33,6 @@ move-right-spec =
     returns
     beeped-requires-2
     returns-2
-    add-edited
-    edited-requires
+    add-done
+    done-requires
     returns-3)

@@ -19,7 +19,7 @@ pub record Typed : Type 0 where
 abbrev pub after : ℕ → ℕ → Typed → Typed
 after read beeps x = record { content = x .content; buffer = x .buffer; read = read + x .read; beeps = beeps + x .beeps; ending = x .ending }
 
--- what an ending key leaves, or what a key that is none and those behind it leave
+-- what an ending key leaves, or what a key that is none and those after it leave
 abbrev pub unlessEnding : Ending → Typed → Typed → Typed
 unlessEnding None ended goesOn = goesOn
 unlessEnding Return ended goesOn = ended

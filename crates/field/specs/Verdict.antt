@@ -25,11 +25,12 @@ unfoldable pub stateVerdict : ℕ → ℕ → State → Verdict
 stateVerdict width maximum state =
     cond (ltb maximum (state .length) || (ltb (state .length) (state .cursor) || ltb width (state .cursor))) (Refused StateOutOfRange) Accepted
 
--- of a call that is given a state: 19 after them
+-- the first of two that refuses
 unfoldable pub firstOf : Verdict → Verdict → Verdict
 firstOf (Refused status) next = Refused status
 firstOf Accepted next = next
 
+-- of a call that is given a state: 11, 12 and 13, and then 19
 unfoldable pub keysVerdict : ℕ → ℕ → ℕ → ℕ → State → Verdict
 keysVerdict width maximum default buffer state = firstOf (startVerdict width maximum default buffer) (stateVerdict width maximum state)
 

@@ -89,7 +89,7 @@ textAfter width maximum default r = textCall width maximum (length default) (len
 abbrev pub EscapeGivesDefault : ℕ → ℕ → List ℕ → Reply KeysAnswer → Type 0
 EscapeGivesDefault width maximum default r = r .answer .status ≡ Done → r .answer .ending ≡ Escape → textAfter width maximum default r ≡ theDefault (length default)
 
--- keys that end by Return, and a text that has the default's bytes
+-- keys that end by Return, and a text with the default's bytes
 pub record ReturnsDefault (width maximum : ℕ) (default : List ℕ) (r : Reply KeysAnswer) : Type 0 where
   pub done : r .answer .status ≡ Done
   pub ending : r .answer .ending ≡ Return

@@ -78,10 +78,11 @@ impl Coverage {
         }
     }
 
-    /// Prints each status reached, by kind of call, and what was reached
-    /// least often.
+    /// Prints each status reached, by kind of call, the keys and what they
+    /// did, and what was reached least often.
     pub fn print(&self) {
         self.statuses.print();
+        self.effects.print();
         let all = self.all();
         if let Some((name, times)) = all.iter().min_by_key(|(_, times)| times) {
             println!("to be reached: {}, the rarest '{}' ({} times)", all.len(), name, times);

@@ -127,6 +127,22 @@ impl Effects {
         ))
     }
 
+    /// Prints how many of the keys were read, and each effect: those of
+    /// keys that do something or end the field, and those that beep.
+    pub fn print(&self) {
+        let read = self.keys.iter().filter(|&&times| times > 0).count();
+        println!("keys: {} of {} values read", read, self.keys.len());
+        for (beeps, heading) in ["done", "beeped"].iter().enumerate() {
+            let met: Vec<String> = EFFECTS
+                .iter()
+                .zip(self.met)
+                .filter(|((_, _, wanted, _), _)| *wanted == beeps)
+                .map(|((_, name, _, _), times)| format!("{} ({} times)", name, times))
+                .collect();
+            println!("{}: {}", heading, met.join("; "));
+        }
+    }
+
     /// All that can be met, and how often it was.
     pub fn all(&self) -> Vec<(String, u64)> {
         let mut all = Vec::new();

@@ -41,7 +41,7 @@ fn plain_c_is_right(harness: &Harness, name: &str) -> Result<bool, String> {
     let stream = read(&path).map_err(failed)?;
     let input = File::open(&path).map_err(failed)?;
     let output = Command::new(harness.program("ref")).stdin(input).output();
-    Ok(printed("plain C console", output)? == expected::whole(&stream))
+    Ok(printed("plain C console", output)? == expected::whole(&stream).printed)
 }
 
 /// As it is timed, and cut into pieces.

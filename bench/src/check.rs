@@ -18,28 +18,30 @@ const FEEDS: [Feed; 6] = [
     Feed::Bytes,
 ];
 
-/// Line feeds in the end leave nothing to see; after so many bytes the
-/// lines of text have moved, and some are left.
-const PART: usize = 1985;
+/// Line feeds in the end leave nothing to see; after the first of these
+/// numbers of bytes the lines of text have moved, and some are left. In the
+/// end every line is marked; after the second number few are.
+const PARTS: [usize; 2] = [1985, 150];
 
 /// How many differences are told of.
 const SHOWN: usize = 5;
 
-/// Fails if on some workload the screens, cursors or bells differ.
+/// Fails if on some workload the screens, cursors, bells or marks differ.
 pub fn compare(workloads: &[Workload]) -> Result<(), String> {
     let mut found = Vec::new();
     for workload in workloads {
         let whole = workload.stream.len();
-        for length in [whole, whole.min(PART)] {
+        for length in [whole, whole.min(PARTS[0]), whole.min(PARTS[1])] {
             found.extend(differences(&workload.name, &workload.stream[..length]));
         }
     }
     agree(found)?;
     println!(
-        "Library and reference program leave the same screen, cursor and bells after every \
-         workload and after its first {} bytes: whole, in pieces of 65,536, 16 and 7 bytes, \
-         and one byte a call, by value and by the one-byte call.",
-        with_commas(PART as u64)
+        "Library and reference program leave the same screen, cursor, bells and marks after \
+         every workload and after its first {} and {} bytes: whole, in pieces of 65,536, 16 and \
+         7 bytes, and one byte a call, by value and by the one-byte call.",
+        with_commas(PARTS[0] as u64),
+        PARTS[1]
     );
     Ok(())
 }

@@ -29,7 +29,7 @@ impl End {
     pub fn difference(&self, given: &End) -> Option<String> {
         if self.answer != given.answer {
             return Some(format!(
-                "status, bells, column and line are {:?} instead of {:?}",
+                "status, bells, column, line, marks and their number are {:?} instead of {:?}",
                 given.answer, self.answer
             ));
         }

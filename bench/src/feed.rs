@@ -1,8 +1,9 @@
 //! How a stream is handed to a console, and what comes back.
 
-/// The status, the bells as four bytes, low byte first, the cursor's
-/// column and line: as the library answers.
-pub type Answer = [u8; 7];
+/// As the library answers: the status, the bells, the cursor's column and
+/// line, the marks and how many lines are marked. Bells and marks are four
+/// bytes each, low byte first.
+pub type Answer = [u8; 12];
 
 #[derive(Clone, Copy, Debug, PartialEq, Eq)]
 pub enum Feed {

@@ -45,7 +45,8 @@ pub fn run(folder: &str, ours: &str, plain_c: Option<&str>) -> Result<(), String
     println!(
         "Instructions by valgrind's callgrind, one round of each workload less one round \
          of an empty stream, so that starting the program does not count. A call by client \
-         copies the screen, 1,920 bytes, into its answer: that is counted with it."
+         copies the screen, 1,920 bytes, and the marks of all slots into its answer: that \
+         is counted with it."
     );
     table.print("Instructions");
     Ok(())

@@ -65,7 +65,7 @@ impl Calls {
     /// inlined, so that its own frame is the same whatever it calls.
     #[inline(never)]
     pub fn run(&self, stream: &[u8], feed: Feed, screen: &mut [u8]) -> Answer {
-        let mut answer: Answer = [0; 7];
+        let mut answer: Answer = [0; 12];
         let (bytes, length) = (stream.as_ptr(), stream.len());
         let (cells, count) = (screen.as_mut_ptr(), screen.len());
         let (lent, room) = (answer.as_mut_ptr(), answer.len());

@@ -19,6 +19,11 @@ mod cursor;
 #[allow(dead_code)]
 #[path = "../../tests/compare/expected.rs"]
 mod expected;
+#[allow(dead_code)]
+#[path = "../../tests/compare/lines.rs"]
+mod lines;
+#[path = "../../reference/src/marks.rs"]
+mod marks;
 #[path = "../../reference/src/port.rs"]
 mod port;
 #[allow(dead_code)]

@@ -5,8 +5,9 @@ use crate::port::{BLANK, SCREEN_SIZE};
 
 const CLIENT: u8 = 7;
 
-/// The status, a count of four bytes, and the screen.
-const ANSWER: usize = 5 + SCREEN_SIZE;
+/// The status, then numbers of four bytes each: a count, the marks that
+/// the call returned and those that four slots hold; and the screen.
+const ANSWER: usize = 1 + 4 * (1 + 1 + 4) + SCREEN_SIZE;
 
 /// Opens the client on the whole screen and writes each byte by a call of
 /// its own.

@@ -2,6 +2,7 @@
 //! The program needs the block calls for its scripts; hosts also the row.
 #![cfg_attr(not(test), allow(dead_code))]
 
+use crate::marks::store;
 use crate::port::{cell, Port, SCREEN_SIZE};
 
 fn width(port: &Port) -> u8 {
@@ -42,8 +43,8 @@ pub fn block_return(port: Port, screen: &[u8], block: &mut [u8]) -> (u8, Port, u
     (0, port, block_size(&port))
 }
 
-/// Writes a block's cells into the viewport; the cursor does not move.
-/// Gives the status, the port and a count of 0.
+/// Writes a block's cells into the viewport, which marks its lines; the
+/// cursor does not move. Gives the status, the port and a count of 0.
 pub fn block_restore(port: Port, screen: &mut [u8], block: &[u8]) -> (u8, Port, usize) {
     if screen.len() != SCREEN_SIZE {
         return (1, port, 0);
@@ -54,11 +55,12 @@ pub fn block_restore(port: Port, screen: &mut [u8], block: &[u8]) -> (u8, Port, 
     if block.len() != block_size(&port) || block[0] != width(&port) || block[1] != height(&port) {
         return (10, port, 0);
     }
+    let mut port = port;
     let viewport = port.state.viewport;
     let mut place = 2;
     for line in viewport.top..=viewport.bottom {
         for column in viewport.left..=viewport.right {
-            screen[cell(column, line)] = block[place];
+            store(&mut port, screen, column, line, block[place]);
             place += 1;
         }
     }

@@ -1,9 +1,11 @@
-//! The write call: what each byte does to the screen and the port.
+//! The write call: what each byte does to the screen and the port. Then the
+//! call that takes the port's marks.
 
 use crate::cells::{erase, scroll_down, scroll_up, shift};
 use crate::cursor::{cursor_to_top_left, set_column, set_line};
 use crate::cursor::{down_one, left_one, right_one, up_one};
-use crate::port::{cell, parameters_needed, Port, Rectangle, State, SCREEN_SIZE};
+use crate::marks::store;
+use crate::port::{parameters_needed, Port, Rectangle, State, SCREEN_SIZE};
 use crate::stored::stored_byte;
 
 /// Hands a stream to a port. Gives the status, the port afterwards and
@@ -29,6 +31,17 @@ pub fn write_byte(port: &mut Port, screen: &mut [u8], byte: u8) -> (u8, usize) {
     let (status, after, bells) = write(*port, screen, &[byte]);
     *port = after;
     (status, bells)
+}
+
+/// Takes the port's marks, so that none is left. No screen is lent, so
+/// refusal 2 only. Gives the status, the port, the marks and how many lines
+/// are marked.
+pub fn take_marks(port: Port) -> (u8, Port, u32, usize) {
+    if !port.valid() {
+        return (2, port, 0, 0);
+    }
+    let taken = port.marks;
+    (0, Port { marks: 0, ..port }, taken, taken.count_ones() as usize)
 }
 
 /// A byte is a parameter if a command waits, whatever its value;
@@ -77,23 +90,23 @@ fn execute(port: &mut Port, screen: &mut [u8], bells: &mut usize, code: u8, para
         }
         0x02 => set_viewport(port, parameters),
         // Erasing.
-        0x03 => erase(viewport, screen, |column, line| line == at.line && column <= at.column),
-        0x1D => erase(viewport, screen, |column, line| line == at.line && column >= at.column),
-        0x1A => erase(viewport, screen, |_, line| line == at.line),
-        0x13 => erase(viewport, screen, |column, line| {
+        0x03 => erase(port, screen, |column, line| line == at.line && column <= at.column),
+        0x1D => erase(port, screen, |column, line| line == at.line && column >= at.column),
+        0x1A => erase(port, screen, |_, line| line == at.line),
+        0x13 => erase(port, screen, |column, line| {
             line < at.line || (line == at.line && column <= at.column)
         }),
-        0x0B => erase(viewport, screen, |column, line| {
+        0x0B => erase(port, screen, |column, line| {
             line > at.line || (line == at.line && column >= at.column)
         }),
         0x0C => {
-            erase(viewport, screen, |_, _| true);
+            erase(port, screen, |_, _| true);
             cursor_to_top_left(port);
         }
         // Moving the viewport's cells.
-        0x05 => shift(viewport, screen, parameters[0]),
-        0x16 => scroll_down(viewport, screen),
-        0x17 => scroll_up(viewport, screen),
+        0x05 => shift(port, screen, parameters[0]),
+        0x16 => scroll_down(port, screen),
+        0x17 => scroll_up(port, screen),
         // Placing the cursor.
         0x06 => set_line(port, parameters[0]),
         0x14 => set_column(port, parameters[0]),
@@ -141,7 +154,8 @@ fn execute(port: &mut Port, screen: &mut [u8], bells: &mut usize, code: u8, para
 /// Stores at the cursor, then moves right if advance is on.
 fn print(port: &mut Port, screen: &mut [u8], code: u8) {
     let at = port.state.cursor;
-    screen[cell(at.column, at.line)] = stored_byte(code, port.state.inverse, port.state.mousetext);
+    let byte = stored_byte(code, port.state.inverse, port.state.mousetext);
+    store(port, screen, at.column, at.line, byte);
     if port.state.flags.advance {
         right_one(port, screen);
     }

@@ -46,7 +46,7 @@ pub fn left_one(port: &mut Port, screen: &mut [u8]) {
             port.state.cursor.column = viewport.right;
             port.state.cursor.line -= 1;
         } else if port.state.flags.scroll {
-            scroll_down(viewport, screen);
+            scroll_down(port, screen);
             port.state.cursor.column = viewport.right;
         }
     }
@@ -63,7 +63,7 @@ pub fn right_one(port: &mut Port, screen: &mut [u8]) {
             port.state.cursor.column = viewport.left;
             port.state.cursor.line += 1;
         } else if port.state.flags.scroll {
-            scroll_up(viewport, screen);
+            scroll_up(port, screen);
             port.state.cursor.column = viewport.left;
         }
     }
@@ -74,7 +74,7 @@ pub fn down_one(port: &mut Port, screen: &mut [u8]) {
     if port.state.cursor.line < port.state.viewport.bottom {
         port.state.cursor.line += 1;
     } else if port.state.flags.scroll {
-        scroll_up(port.state.viewport, screen);
+        scroll_up(port, screen);
     }
 }
 
@@ -83,6 +83,6 @@ pub fn up_one(port: &mut Port, screen: &mut [u8]) {
     if port.state.cursor.line > port.state.viewport.top {
         port.state.cursor.line -= 1;
     } else if port.state.flags.scroll {
-        scroll_down(port.state.viewport, screen);
+        scroll_down(port, screen);
     }
 }

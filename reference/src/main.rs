@@ -15,6 +15,7 @@ mod cells;
 mod console;
 mod cursor;
 mod field;
+mod marks;
 mod multiplexer;
 mod port;
 mod script;

@@ -36,6 +36,7 @@ const FREE_SLOT: Slot = Slot {
         waiting: 0,
         gathered: 0,
         parameters: [0, 0, 0, 0],
+        marks: 0,
     },
 };
 
@@ -108,9 +109,9 @@ fn share_a_cell(one: Rectangle, other: Rectangle) -> bool {
     false
 }
 
-/// Starts a fresh port in the lowest free slot and blanks its pane.
-/// Refusals 1 to 7, the smallest first. Gives the status, the multiplexer
-/// and a count of 0.
+/// Starts a fresh port in the lowest free slot and blanks its pane, which
+/// marks the pane's lines. Refusals 1 to 7, the smallest first. Gives the
+/// status, the multiplexer and a count of 0.
 pub fn open(
     multiplexer: Multiplexer,
     screen: &mut [u8],
@@ -141,33 +142,28 @@ pub fn open(
         Some(place) => place,
         None => return (7, multiplexer, 0),
     };
+    // A fresh port's viewport is its pane.
+    let mut port = Port::fresh_in(pane);
+    erase(&mut port, screen, |_, _| true);
     let mut multiplexer = multiplexer;
-    multiplexer.slots[place] = Slot { client, port: Port::fresh_in(pane) };
-    erase(pane, screen, |_, _| true);
+    multiplexer.slots[place] = Slot { client, port };
     (0, multiplexer, 0)
 }
 
 /// Makes the slot a free one, no field of it kept. No screen is lent, so
 /// no cell changes and status 1 does not occur: refusals 2 and 8 only.
 pub fn close(multiplexer: Multiplexer, client: u8) -> (u8, Multiplexer, usize) {
-    if !multiplexer.valid() {
-        return (2, multiplexer, 0);
-    }
-    let place = match multiplexer.find_open(client) {
-        Some(place) => place,
-        None => return (8, multiplexer, 0),
+    let place = match select(&multiplexer, client) {
+        Ok(place) => place,
+        Err(status) => return (status, multiplexer, 0),
     };
     let mut multiplexer = multiplexer;
     multiplexer.slots[place] = FREE_SLOT;
     (0, multiplexer, 0)
 }
 
-/// The slot that a write, block return or block restore is for, or the
-/// refusal: 1, 2 or 8, the smallest first.
-fn select(multiplexer: &Multiplexer, screen: &[u8], client: u8) -> Result<usize, u8> {
-    if screen.len() != SCREEN_SIZE {
-        return Err(1);
-    }
+/// The slot that a call is for, or the refusal: 2 or 8, the smallest first.
+fn select(multiplexer: &Multiplexer, client: u8) -> Result<usize, u8> {
     if !multiplexer.valid() {
         return Err(2);
     }
@@ -175,6 +171,14 @@ fn select(multiplexer: &Multiplexer, screen: &[u8], client: u8) -> Result<usize,
         Some(place) => Ok(place),
         None => Err(8),
     }
+}
+
+/// The same for a call that is lent a screen, with 1 before the others.
+fn select_with_screen(multiplexer: &Multiplexer, screen: &[u8], client: u8) -> Result<usize, u8> {
+    if screen.len() != SCREEN_SIZE {
+        return Err(1);
+    }
+    select(multiplexer, client)
 }
 
 /// Hands a stream to the client's port. Refusals 1, 2 and 8; the count is
@@ -185,7 +189,7 @@ pub fn write(
     client: u8,
     bytes: &[u8],
 ) -> (u8, Multiplexer, usize) {
-    let place = match select(&multiplexer, screen, client) {
+    let place = match select_with_screen(&multiplexer, screen, client) {
         Ok(place) => place,
         Err(status) => return (status, multiplexer, 0),
     };
@@ -203,7 +207,7 @@ pub fn block_return(
     client: u8,
     block: &mut [u8],
 ) -> (u8, Multiplexer, usize) {
-    let place = match select(&multiplexer, screen, client) {
+    let place = match select_with_screen(&multiplexer, screen, client) {
         Ok(place) => place,
         Err(status) => return (status, multiplexer, 0),
     };
@@ -221,7 +225,7 @@ pub fn block_restore(
     client: u8,
     block: &[u8],
 ) -> (u8, Multiplexer, usize) {
-    let place = match select(&multiplexer, screen, client) {
+    let place = match select_with_screen(&multiplexer, screen, client) {
         Ok(place) => place,
         Err(status) => return (status, multiplexer, 0),
     };
@@ -229,4 +233,18 @@ pub fn block_restore(
     let (status, port, count) = block::block_restore(multiplexer.slots[place].port, screen, block);
     multiplexer.slots[place].port = port;
     (status, multiplexer, count)
+}
+
+/// Takes the marks of the client's port. Refusals 2 and 8 only, as no screen
+/// is lent. Gives the status, the multiplexer, the marks and how many lines
+/// are marked.
+pub fn take_marks(multiplexer: Multiplexer, client: u8) -> (u8, Multiplexer, u32, usize) {
+    let place = match select(&multiplexer, client) {
+        Ok(place) => place,
+        Err(status) => return (status, multiplexer, 0, 0),
+    };
+    let mut multiplexer = multiplexer;
+    let (status, port, marks, count) = console::take_marks(multiplexer.slots[place].port);
+    multiplexer.slots[place].port = port;
+    (status, multiplexer, marks, count)
 }

@@ -4,6 +4,8 @@
 //! Every field is a plain number or truth value, so a host can hand in
 //! an invalid port as well; `Port::valid` tells the two apart.
 
+use crate::marks;
+
 /// 80 columns by 24 lines, one byte a cell.
 pub const SCREEN_SIZE: usize = 1920;
 
@@ -62,6 +64,9 @@ pub struct Port {
     /// How many parameters the waiting command has so far.
     pub gathered: u8,
     pub parameters: [u8; 4],
+    /// The screen lines stored to since the marks were last taken. They are
+    /// no part of the state, so $01 and $04 leave them alone.
+    pub marks: u32,
 }
 
 /// The home of a plain console.
@@ -121,7 +126,8 @@ impl Port {
         Port::fresh_in(WHOLE_SCREEN)
     }
 
-    /// A fresh port in any home: default state, nothing saved or waiting.
+    /// A fresh port in any home: default state, nothing saved or waiting,
+    /// no line marked.
     pub fn fresh_in(home: Rectangle) -> Port {
         Port {
             home,
@@ -131,6 +137,7 @@ impl Port {
             waiting: 0,
             gathered: 0,
             parameters: [0, 0, 0, 0],
+            marks: 0,
         }
     }
 
@@ -139,6 +146,7 @@ impl Port {
             && self.state.valid(self.home)
             && self.saved_valid()
             && self.waiting_valid()
+            && marks::inside(self.marks, self.home)
     }
 
     /// A saved port obeys the same rules; with none, its fields hold 0.

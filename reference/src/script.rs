@@ -1,12 +1,15 @@
 //! A script of calls on a fresh multiplexer, and the answers, both as bytes.
 //!
 //! A call is its kind, a client, and then for an open (0) the pane's left,
-//! top, right and bottom, for a close (1) nothing, and for a write (2),
-//! block return (3) or block restore (4) a length of two bytes, low byte
-//! first, and that many bytes.
+//! top, right and bottom, for a close (1) or a taking of marks (5) nothing,
+//! and for a write (2), block return (3) or block restore (4) a length of
+//! two bytes, low byte first, and that many bytes.
 //!
-//! An answer is the status, a count of four bytes, low byte first, for a
-//! block return the lent block afterwards, then every cell of the screen.
+//! An answer is the status, the count, the marks that the call returned (0
+//! unless it is a taking), for a block return the lent block afterwards,
+//! then the marks that each of the four slots' ports holds after the call,
+//! and every cell of the screen. Counts and marks are four bytes each, low
+//! byte first.
 
 use crate::multiplexer::{self, Multiplexer};
 use crate::port::Rectangle;
@@ -17,6 +20,7 @@ enum Call<'a> {
     Write(&'a [u8]),
     BlockReturn(&'a [u8]),
     BlockRestore(&'a [u8]),
+    TakeMarks,
 }
 
 /// Runs the calls in order, each on the multiplexer and screen that the
@@ -26,6 +30,7 @@ pub fn run_script(script: &[u8], screen: &mut [u8]) -> Vec<u8> {
     let mut answers = Vec::new();
     let mut rest = script;
     while let Some((client, call)) = take_call(&mut rest) {
+        let mut marks = 0;
         let mut lent = Vec::new();
         let (status, after, count) = match call {
             Call::Open(pane) => multiplexer::open(multiplexer, screen, client, pane),
@@ -38,11 +43,20 @@ pub fn run_script(script: &[u8], screen: &mut [u8]) -> Vec<u8> {
             Call::BlockRestore(block) => {
                 multiplexer::block_restore(multiplexer, screen, client, block)
             }
+            Call::TakeMarks => {
+                let (status, after, taken, count) = multiplexer::take_marks(multiplexer, client);
+                marks = taken;
+                (status, after, count)
+            }
         };
         multiplexer = after;
         answers.push(status);
         answers.extend_from_slice(&(count as u32).to_le_bytes());
+        answers.extend_from_slice(&marks.to_le_bytes());
         answers.extend_from_slice(&lent);
+        for slot in multiplexer.slots {
+            answers.extend_from_slice(&slot.port.marks.to_le_bytes());
+        }
         answers.extend_from_slice(screen);
     }
     answers
@@ -65,7 +79,8 @@ fn take_call<'a>(rest: &mut &'a [u8]) -> Option<(u8, Call<'a>)> {
         2 => Call::Write(take_bytes(rest)?),
         3 => Call::BlockReturn(take_bytes(rest)?),
         4 => Call::BlockRestore(take_bytes(rest)?),
-        5..=255 => return None,
+        5 => Call::TakeMarks,
+        6..=255 => return None,
     };
     Some((client, call))
 }

@@ -7,6 +7,9 @@ mod fields;
 
 pub use fields::{field_keys, field_start, field_text};
 
+/// How many bytes the answer of a stream is.
+pub const STREAM_ANSWER: usize = 12;
+
 extern "C" {
     fn combthrift_run_script(
         script: *const u8,
@@ -46,6 +49,11 @@ pub enum Feed {
     Bytes,
 }
 
+/// The number that four bytes of an answer stand for: low byte first.
+pub fn number(bytes: &[u8]) -> u32 {
+    u32::from_le_bytes(bytes.try_into().expect("a number has four bytes"))
+}
+
 /// Runs a script on a fresh multiplexer and the lent screen. The answers
 /// go to the front of `answers`, as many as fit. Gives their length.
 pub fn run_script(script: &[u8], screen: &mut [u8], answers: &mut [u8]) -> usize {
@@ -61,10 +69,11 @@ pub fn run_script(script: &[u8], screen: &mut [u8], answers: &mut [u8]) -> usize
     }
 }
 
-/// Hands a stream to a fresh plain console and the lent screen. The
-/// answer is seven bytes: the last status, all bells as four bytes, low
-/// byte first, the cursor's column and line. Gives 7; or 0, with nothing
-/// done, if fewer bytes are lent for it or writes have no size.
+/// Hands a stream to a fresh plain console and the lent screen, and takes
+/// the marks in the end. The answer is twelve bytes: the last status, all
+/// bells, the cursor's column and line, the marks, and how many lines are
+/// marked; bells and marks are numbers of four bytes. Gives 12; or 0, with
+/// nothing done, if fewer bytes are lent for it or writes have no size.
 pub fn run_stream(bytes: &[u8], feed: Feed, screen: &mut [u8], answer: &mut [u8]) -> usize {
     match feed {
         Feed::Writes(size) => unsafe {

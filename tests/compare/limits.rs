@@ -2,7 +2,7 @@
 //! not stored.
 
 use crate::expected::{self, INPUT_LIMIT};
-use crate::streams::output_faults;
+use crate::outputs::output_faults;
 use crate::subjects::Subject;
 
 pub struct Case {
@@ -37,17 +37,19 @@ fn command_past_the_limit() -> Vec<u8> {
 /// the limit must not, though it would.
 pub fn faults(case: &Case, subjects: &[Subject]) -> Vec<String> {
     let output = expected::whole(&case.input);
+    let prints = |input: &[u8]| expected::without_limit(input).printed == output.printed;
     let mut faults = Vec::new();
     if case.input.len() > INPUT_LIMIT {
-        if expected::without_limit(&case.input) == output {
+        if prints(&case.input) {
             faults.push("the bytes past the limit would not show".to_string());
         }
-    } else if expected::without_limit(&case.input[..INPUT_LIMIT - 1]) == output {
+    } else if prints(&case.input[..INPUT_LIMIT - 1]) {
         faults.push("the last byte does not show".to_string());
     }
     if expected::cut(&case.input, |_, _| {}) != output {
         faults.push("reference: one byte a write gives another output".to_string());
     }
-    faults.extend(output_faults(&case.input, output.as_bytes(), subjects));
+    let printed = output.printed.as_bytes();
+    faults.extend(output_faults(&case.input, printed, &output.marks, subjects));
     faults
 }

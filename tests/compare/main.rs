@@ -1,12 +1,14 @@
 //! Compares the console program and the library `boundary` with the
 //! reference program, on stored streams, on random ones, on random
-//! scripts of calls by client, and on random input fields.
+//! scripts of calls by client, and on random input fields. Plays a
+//! projector, which shows the library's screen by its marks alone.
 //!
 //! Build: rustc --edition 2021 -O -L native=target/staticlib
 //!        -l static=boundary -o OUT tests/compare/main.rs
 //! Run:   OUT streams DIR CONSOLE
 //!        OUT random SEED COUNT CONSOLE
 //!        OUT scripts SEED COUNT
+//!        OUT projector SEED COUNT
 //!        OUT fields SEED COUNT
 //!
 //! CONSOLE is a program that reads a stream from standard input and
@@ -23,6 +25,8 @@ mod console;
 mod cursor;
 #[path = "../../reference/src/field.rs"]
 mod field;
+#[path = "../../reference/src/marks.rs"]
+mod marks;
 #[path = "../../reference/src/multiplexer.rs"]
 mod multiplexer;
 #[path = "../../reference/src/port.rs"]
@@ -40,9 +44,12 @@ mod fields;
 mod generator;
 mod library;
 mod limits;
+mod lines;
+mod outputs;
 mod pairs;
 mod pieces;
 mod program;
+mod projector;
 mod random;
 mod rng;
 mod scripts;
@@ -57,6 +64,7 @@ use std::process::exit;
 const USAGE: &str = "usage: compare streams DIR CONSOLE
        compare random SEED COUNT CONSOLE
        compare scripts SEED COUNT
+       compare projector SEED COUNT
        compare fields SEED COUNT";
 
 fn main() {
@@ -81,6 +89,7 @@ fn asked(arguments: &[OsString]) -> Option<bool> {
             Some(random::random(number(seed)?, number(count)?, console))
         }
         ("scripts", [seed, count]) => Some(scripts::scripts(number(seed)?, number(count)?)),
+        ("projector", [seed, count]) => Some(projector::projector(number(seed)?, number(count)?)),
         ("fields", [seed, count]) => Some(fields::fields(number(seed)?, number(count)?)),
         _ => None,
     }

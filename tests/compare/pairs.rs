@@ -41,7 +41,7 @@ impl Pairs {
 }
 
 /// The control code that is executed once the port has taken this byte.
-fn command_completed(port: &Port, byte: u8) -> Option<u8> {
+pub fn command_completed(port: &Port, byte: u8) -> Option<u8> {
     if port.waiting != 0 {
         if port.gathered + 1 == parameters_needed(port.waiting) {
             Some(port.waiting)

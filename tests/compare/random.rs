@@ -1,8 +1,8 @@
 //! The random comparison of the program and the library with the
-//! reference.
+//! reference; of the library the marks too.
 
 use crate::difference::{first_difference, hex};
-use crate::expected;
+use crate::expected::{self, Output};
 use crate::generator::stream;
 use crate::pairs::{Pairs, ALL_PAIRS};
 use crate::program::Fault;
@@ -67,39 +67,47 @@ pub fn random(seed: u64, count: u64, console: &OsStr) -> bool {
     differing == 0 && missing.is_empty()
 }
 
-/// The first that prints something else for the input, with what it prints.
+/// The first that gives something else for the input, with what it gives.
 fn first_to_differ<'a, 'b>(
     subjects: &'a [Subject<'b>],
     input: &[u8],
-    output: &str,
+    output: &Output,
 ) -> Option<(&'a Subject<'b>, Result<Vec<u8>, Fault>)> {
     subjects
         .iter()
         .map(|subject| (subject, subject.output(input)))
-        .find(|(_, printed)| differs(output, printed))
+        .find(|(subject, given)| differs(subject, output, given))
 }
 
-fn differs(output: &str, printed: &Result<Vec<u8>, Fault>) -> bool {
-    match printed {
-        Ok(printed) => printed != output.as_bytes(),
+fn differs(subject: &Subject, output: &Output, given: &Result<Vec<u8>, Fault>) -> bool {
+    match given {
+        Ok(given) => *given != wanted(subject, output),
         Err(_) => true,
     }
 }
 
+fn wanted(subject: &Subject, output: &Output) -> Vec<u8> {
+    subject.wanted(output.printed.as_bytes(), &output.marks)
+}
+
 /// Prints the shortest stream that shows a difference, and where.
 fn report(seed: u64, number: u64, input: &[u8], subject: &Subject) {
-    let shortest =
-        shrink(input, |shorter| differs(&expected::whole(shorter), &subject.output(shorter)));
+    let shortest = shrink(input, |shorter| {
+        differs(subject, &expected::whole(shorter), &subject.output(shorter))
+    });
     println!("seed {} stream {}: {} differs", seed, number, subject);
     println!("shortest stream: {}", hex(&shortest));
     match subject.output(&shortest) {
         Err(fault) => println!("{} {}", subject, fault),
-        Ok(printed) => match first_difference(expected::whole(&shortest).as_bytes(), &printed) {
-            None => println!("it does not differ again: the {} is not steady", subject),
-            Some(difference) => {
-                println!("output line {} should be {}", difference.line, difference.wanted);
-                println!("output line {} is        {}", difference.line, difference.given);
+        Ok(given) => {
+            let wanted = wanted(subject, &expected::whole(&shortest));
+            match first_difference(&wanted, &given) {
+                None => println!("it does not differ again: the {} is not steady", subject),
+                Some(difference) => {
+                    println!("output line {} should be {}", difference.line, difference.wanted);
+                    println!("output line {} is        {}", difference.line, difference.given);
+                }
             }
-        },
+        }
     }
 }

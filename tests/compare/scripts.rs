@@ -1,24 +1,30 @@
 //! The comparison of the library with the reference on random scripts of
-//! calls by client, answer by answer.
+//! calls by client, answer by answer: each tells the status, the count, the
+//! marks returned and held, a returned block, and the screen.
 
+pub mod answer;
 mod blocks;
-mod call;
+pub mod call;
+mod codes;
 mod coverage;
-mod generator;
+pub mod generator;
+mod marks;
 mod model;
-mod outcomes;
+mod moment;
+pub mod outcomes;
 mod panes;
+pub mod print;
 mod refusals;
-mod run;
-mod shrink_run;
+pub mod run;
+pub mod shrink_run;
 mod situations;
 mod surroundings;
+mod takings;
 mod writes;
 
-use crate::difference::{brief_hex, hex};
-use crate::port::BLANK;
 use coverage::Coverage;
 use outcomes::difference;
+use print::print_run;
 use run::Run;
 use shrink_run::shrink_run;
 
@@ -62,22 +68,7 @@ fn library_difference(run: &Run) -> Option<String> {
 fn report(seed: u64, number: u64, run: &Run) {
     let run = shrink_run(run, |shorter| library_difference(shorter).is_some());
     println!("seed {} script {}: the library differs", seed, number);
-    let blank = run.screen.iter().all(|&cell| cell == BLANK);
-    println!(
-        "shortest script found, on a screen of {} bytes, {}:",
-        run.screen.len(),
-        if blank { "all blank" } else { "as this seed and number make it" }
-    );
-    for (place, call) in run.calls.iter().enumerate() {
-        println!("  {}: {}", place + 1, call);
-    }
-    if !run.ending.is_empty() {
-        println!("  then {} bytes: {}", run.ending.len(), brief_hex(&run.ending));
-    }
-    if run.spare != 0 {
-        println!("  with room for {} bytes of answers", run.room());
-    }
-    println!("its bytes: {}", hex(&run.script()));
+    print_run(&run);
     match library_difference(&run) {
         None => println!("it does not differ again: the library is not steady"),
         Some(difference) => println!("{}", difference),

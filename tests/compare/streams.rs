@@ -1,11 +1,12 @@
 //! The stored streams. Each folder holds an `input`, the `output` that it
 //! must give, and `about`: one line of words that says what the stream
-//! shows and which rule it is about. To add a case, add a folder.
+//! shows and which rule it is about. To add a case, add a folder. The marks
+//! that the library must give as well are the reference's.
 
-use crate::difference::first_difference;
 use crate::edges;
 use crate::expected;
 use crate::limits;
+use crate::outputs::{output_faults, reference_faults};
 use crate::subjects::{subjects, Subject};
 use std::ffi::OsStr;
 use std::fs;
@@ -103,14 +104,9 @@ fn stream_faults(case: &Path, subjects: &[Subject]) -> Vec<String> {
         _ => return faults,
     };
     let whole = expected::whole(&input);
-    if let Some(difference) = first_difference(&output, whole.as_bytes()) {
-        faults.push(format!("reference: {}", difference.brief()));
-    }
     let cut = expected::cut(&input, |_, _| {});
-    if let Some(difference) = first_difference(&output, cut.as_bytes()) {
-        faults.push(format!("reference, one byte a write: {}", difference.brief()));
-    }
-    faults.extend(output_faults(&input, &output, subjects));
+    faults.extend(reference_faults(&output, &whole, &cut));
+    faults.extend(output_faults(&input, &output, &whole.marks, subjects));
     faults
 }
 
@@ -122,20 +118,4 @@ fn read(case: &Path, file: &str, faults: &mut Vec<String>) -> Option<Vec<u8>> {
             None
         }
     }
-}
-
-/// What is wrong with what each subject prints for the input.
-pub fn output_faults(input: &[u8], output: &[u8], subjects: &[Subject]) -> Vec<String> {
-    let mut faults = Vec::new();
-    for subject in subjects {
-        match subject.output(input) {
-            Err(fault) => faults.push(format!("{} {}", subject, fault)),
-            Ok(printed) => {
-                if let Some(difference) = first_difference(output, &printed) {
-                    faults.push(format!("{}: {}", subject, difference.brief()));
-                }
-            }
-        }
-    }
-    faults
 }

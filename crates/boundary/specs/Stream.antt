@@ -10,9 +10,9 @@ use Rattle.session.specs.Session.{freshSession, afterWrite}
 use Rattle.session.specs.Answer.{endOf}
 use Rattle.boundary.specs.Run.{Run, notRun}
 
--- the end of a session lies in front of the answer, if it has room for its seven bytes
+-- the end of a session lies in front of the answer, if it has room for its twelve bytes
 unfoldable pub endsIn : List ℕ → List ℕ → Session → List ℕ → Run
-endsIn s answer end t = cond (ltb (length answer) 7) (notRun s answer) (record { size = 7; lent = t; answer = endOf end ++ drop 7 answer })
+endsIn s answer end t = cond (ltb (length answer) 12) (notRun s answer) (record { size = 12; lent = t; answer = endOf end ++ drop 12 answer })
 
 -- one write of all the bytes, whatever the size of the pieces; none has size 0
 unfoldable pub streamRun : List ℕ → ℕ → List ℕ → List ℕ → Run

@@ -1,4 +1,4 @@
-// Scripts of calls by client. A call is its kind, the client, and then for an open (0) the pane's left, top, right and bottom, for a close (1) nothing,
+// Scripts of calls by client. A call is its kind, the client, and then for an open (0) the pane's left, top, right and bottom, for a close (1) or a taking (5) nothing,
 // and for a write (2), a block return (3) or a block restore (4) a length of two bytes, low byte first, and that many bytes.
 use rectangle::Rect;
 ghost use Prim.Native.Nat.{_≤_, _<_};
@@ -92,6 +92,7 @@ pub fn parse_call(script: &[u8], at: usize) -> Parsed
         2 => with_length(script, at),
         3 => with_length(script, at),
         4 => with_length(script, at),
+        5 => with_arguments(script, at, 2, 0),
         _ => Parsed::End,
     }
 }

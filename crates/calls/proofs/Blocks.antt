@@ -13,7 +13,7 @@ use Rattle.port.specs.declared.Port.{Port}
 use Rattle.port.specs.Valid.{ValidPort}
 use Rattle.port.proofs.Validity.{viewport-on-screen}
 use Rattle.reply.specs.declared.Status.the-variants.{Done}
-use Rattle.calls.specs.Calls.{PortReply, blockReturned, blockRestored}
+use Rattle.calls.specs.Calls.{PortReply, viewportMarked, blockReturned, blockRestored}
 
 module _ (p : Port) (s block : List ℕ) (v : ValidPort p) (len : length s ≡ 1920) (room : blockLength (p .view .viewport) ≤ length block) where
   abbrev rect : Rect
@@ -27,9 +27,9 @@ module _ (p : Port) (s block : List ℕ) (v : ValidPort p) (len : length s ≡ 1
   unfolding blockReturned
   handed-out = rw (le-ltb (length block) (blockLength rect) room)
 
-  -- what a restore of the block in front leaves: the port and the screen as they were
+  -- what a restore of the block in front leaves: the screen as it was, and the port but for its marks
   abbrev pub putBack : PortReply
-  putBack = record { status = Done; state = p; result = 0; screen = s; block = blockOf rect s }
+  putBack = record { status = Done; state = viewportMarked p; result = 0; screen = s; block = blockOf rect s }
 
   own-block : blockRestored p s (blockOf rect s) ≡ putBack
   unfolding blockRestored

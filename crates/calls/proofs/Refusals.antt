@@ -1,4 +1,4 @@
--- A call that is refused with 9 or 10 changes nothing and counts 0. Assumes nothing.
+-- A call that is refused with 9 or 10 changes nothing and counts 0; a taking of a valid port's marks is never refused. Assumes nothing.
 use Prim.Native.Nat.{ℕ}
 use mathlib.Core.Path.{refl}
 use mathlib.Core.List.{List}
@@ -12,6 +12,7 @@ use Rattle.reply.specs.declared.Status.the-variants.{Done}
 use Rattle.reply.specs.Reply.{Reply}
 use Rattle.reply.specs.Laws.{ChangesNothing}
 use Rattle.calls.specs.Calls.{written, blockReturned, blockRestored}
+use Rattle.calls.specs.Taking.{noneTaken, marksTaken}
 
 -- a refused call changes nothing and counts 0
 abbrev pub Unchanged : {State : Type 0} → State → List ℕ → List ℕ → Reply Status State ℕ → Type 0
@@ -29,3 +30,7 @@ module _ (p : Port) (s block : List ℕ) where
   pub restored-refuses : Unchanged p s block (blockRestored p s block)
   unfolding blockRestored
   restored-refuses = by-test (Unchanged p s block) (blockFits (p .view .viewport) block) (λ _ e. absurd (e refl)) (λ _ e. refl)
+
+  pub taken-refuses : ChangesNothing Done noneTaken p s block (marksTaken p s block)
+  unfolding marksTaken
+  taken-refuses e = absurd (e refl)

@@ -1,4 +1,4 @@
--- Paper 01, 'What comes back' and 'Blocks, rows, one byte': write, block return and block restore, on a valid port and a screen of 1,920 bytes. Assumes nothing.
+-- Paper 01, 'What comes back' and 'Blocks, rows, one byte': write, block return and block restore, on a valid port and a screen of 1,920 bytes; what a restore marks is request 02's. Assumes nothing.
 use Prim.Native.Nat.{ℕ}
 use mathlib.Core.Bool.{cond}
 use mathlib.Core.List.{List, _++_}
@@ -6,7 +6,9 @@ use lib.Dec.{ltb}
 use lib.ListN.{length, drop}
 use Rattle.rectangle.specs.Edit.{draw}
 use Rattle.block.specs.Block.{blockLength, blockOf, blockFits, restored}
+use Rattle.marks.specs.Marks.{markedIn}
 use Rattle.port.specs.declared.Port.{Port}
+use Rattle.port.specs.State.{withMarks}
 use Rattle.port.specs.Step.{Outcome}
 use Rattle.port.specs.Stream.{stream}
 use Rattle.reply.specs.declared.Status.{Status}
@@ -35,11 +37,15 @@ blockReturned p s block =
     cond (ltb (length block) size) (refusal BlockTooShort p s block)
     (record { status = Done; state = p; result = size; screen = s; block = blockOf (p .view .viewport) s ++ drop size block })
 
+-- request 02: 'a block restore marks the viewport's' lines; nothing else of the port changes
+abbrev pub viewportMarked : Port → Port
+viewportMarked p = withMarks p (markedIn (p .marks) (p .view .viewport))
+
 -- block restore: 10 by its rule; 'restore writes the cells and moves no cursor'
 unfoldable pub blockRestored : PortCall
 blockRestored p s block =
     cond (blockFits (p .view .viewport) block)
-    (record { status = Done; state = p; result = 0; screen = restored (p .view .viewport) block s; block = block })
+    (record { status = Done; state = viewportMarked p; result = 0; screen = restored (p .view .viewport) block s; block = block })
     (refusal BlockMismatch p s block)
 
 abbrev pub answerOf : Status → Port → ℕ → Answer

@@ -1,11 +1,14 @@
-// The calls below their judging: what a write, a block return and a block restore do to a valid port and a screen of 1,920 bytes. `console` and `multiplexer` judge a call and make it here; the one refusal that both have, of a screen, is here too.
+// The calls below their judging: what a write, a block return, a block restore and a taking of marks do to a valid port and a screen of 1,920 bytes. `console` and `multiplexer` judge a call and make it here; the one refusal that both have, of a screen, is here too.
 use block::block_fits;
 use block::block_length;
 use block::copy_in;
 use block::copy_out;
 use executor::execute_byte;
 use executor::execute_stream;
+use marks::count;
+use marks::mark;
 use port::Port;
+use port::state::with_marks;
 use reply::Status;
 use screen::is_screen;
 ghost use mathlib.Core.Path.{_≡_};
@@ -15,6 +18,7 @@ ghost use Rattle.port.specs.Valid.{ValidPort};
 ghost use Rattle.reply.specs.Reply.{Replies};
 ghost use Rattle.calls.specs.Verdict.{screenVerdict};
 ghost use Rattle.calls.specs.Calls.{written, blockReturned, blockRestored, answerOf};
+ghost use Rattle.calls.specs.Taking.{marksTaken, takenOf, takingOf};
 
 // Whether a call is refused before it starts.
 pub enum Verdict {
@@ -81,7 +85,7 @@ pub fn return_block(p: Port, screen: &[u8], block: &mut [u8]) -> Answer
     answer_of(Status::Done, p, size)
 }
 
-// Puts a block's text into the viewport. The cursor stays.
+// Puts a block's text into the viewport, whose lines are marked. The cursor stays.
 pub fn restore_block(p: Port, screen: &mut [u8], block: &[u8]) -> Answer
     requires { ⌜ ValidPort p × (length (now screen) ≡ 1920) ⌝ }
     ensures { λ r. ⌜ Replies (blockRestored p (now (screen .entry)) (now (block .entry))) (r .status) (r .port) (r .count) (now (screen .exit)) (now (block .entry)) ⌝ }
@@ -89,7 +93,35 @@ pub fn restore_block(p: Port, screen: &mut [u8], block: &[u8]) -> Answer
     let rect = p.view.viewport;
     if block_fits(rect, block) {
         copy_in(screen, rect, block);
-        return answer_of(Status::Done, p, 0);
+        let marks = mark(p.marks, rect.top, rect.bottom);
+        return answer_of(Status::Done, with_marks(p, marks), 0);
     }
     answer_of(Status::BlockMismatch, p, 0)
+}
+
+// What a taking hands back: the status, the port, the marks, and how many lines are marked.
+pub struct Taking {
+    pub status: Status,
+    pub port: Port,
+    pub marks: u32,
+    pub count: usize,
+}
+
+pub fn taking_of(status: Status, port: Port, marks: u32, count: usize) -> Taking
+    ensures { λ r. ⌜ r ≡ takingOf status port (takenOf marks count) ⌝ }
+{
+    Taking {
+        status,
+        port,
+        marks,
+        count,
+    }
+}
+
+// Hands the marks out and clears them. No screen is lent, and no block.
+pub fn take_marks(p: Port) -> Taking
+    requires { ⌜ ValidPort p ⌝ }
+    ensures { λ r. ⌜ Replies (marksTaken p [] []) (r .status) (r .port) (takenOf (r .marks) (r .count)) [] [] ⌝ }
+{
+    taking_of(Status::Done, with_marks(p, 0), p.marks, count(p.marks))
 }

@@ -12,17 +12,19 @@ use Rattle.rectangle.proofs.Rectangles.{decides-legal}
 use Rattle.block.specs.Block.{blockLength, blockFits}
 use Rattle.reply.specs.declared.Status.{Status}
 use Rattle.reply.specs.declared.Status.the-variants.{Done, ScreenLength, Invalid, ClientZero, PaneIllegal, ClientTaken, PaneShared, Full, NotOpen, BlockTooShort, BlockMismatch}
+use Rattle.reply.specs.Reply.{Reply}
 use Rattle.reply.specs.Answers.{Exactly}
 use Rattle.reply.proofs.Rules.{First, spared, refused-if, refused-unless, refused-not, answers-first}
 use Rattle.reply.proofs.Rules.First.{none, here, later}
 use Rattle.calls.specs.Calls.{PortReply, PortCall, written, blockReturned, blockRestored}
+use Rattle.calls.specs.Taking.{noneTaken, marksTaken}
 use Rattle.slots.specs.declared.Multiplexer.{Multiplexer}
 use Rattle.slots.specs.State.{slotAt, Open, Free, Closed, slotOf}
 use Rattle.slots.specs.Valid.{ValidMultiplexer}
 use Rattle.slots.proofs.Validity.{decides-multiplexer}
 use Rattle.slots.proofs.Slots.{decides-client, slot-client, slot-found, slot-open}
 use Rattle.multiplexer.specs.Located.{multiplexerVerdict, claimVerdict, freeSlotFor, openSlot, verdictFirst, clientSlot, claimSlot, locatedOn}
-use Rattle.multiplexer.specs.Calls.{MultiplexerReply, onSlot, onClient, writeCall, returnCall, restoreCall, openedAt, openCall, closedAt, closeCall}
+use Rattle.multiplexer.specs.Calls.{onSlot, onClient, writeCall, returnCall, restoreCall, takeCall, openedAt, openCall, closedAt, closeCall}
 use Rattle.multiplexer.proofs.Claims.{decides-pane-shared}
 use Rattle.multiplexer.proofs.Replying.{slotStatus, by-screen}
 use Rattle.client_calls.specs.Laws.{viewport, Fits, Applies, Statuses, ValidStatuses, GoesTo, SlotStatuses}
@@ -53,24 +55,24 @@ module _ (m : Multiplexer) (s : List ℕ) (n : ℕ) (r : Rect) (block : List ℕ
     mismatched : Applies m s n r block BlockMismatch → Fits (viewport m i) block → ⊥
     mismatched = of-slot (λ q. Fits q block → ⊥)
 
-  -- ---- the five calls
+  -- ---- the six calls
   -- a call for an open client: 2, 8, and then what the reply at its slot gives
-  client-first : (s′ block′ : List ℕ) (reply : ℕ → MultiplexerReply) {xs : List Status}
+  client-first : {Result : Type 0} (nothing : Result) (s′ block′ : List ℕ) (reply : ℕ → Reply Status Multiplexer Result) {xs : List Status}
       → (ValidMultiplexer m → (i : ℕ) → Open m i → slotAt m i .client ≡ n → First Done (Applies m s n r block) (reply i .status) xs)
-      → First Done (Applies m s n r block) (slotStatus m s′ block′ reply (clientSlot m n)) (Invalid ∷ NotOpen ∷ xs)
+      → First Done (Applies m s n r block) (slotStatus nothing m s′ block′ reply (clientSlot m n)) (Invalid ∷ NotOpen ∷ xs)
   unfolding multiplexerVerdict openSlot verdictFirst onSlot
-  client-first s′ block′ reply rest =
-      refused-unless (λ j. slotStatus m s′ block′ reply (verdictFirst j (openSlot m n))) (decides-multiplexer m) (λ k. k) (λ p k. k p) refl λ v.
-      refused-not (slotStatus m s′ block′ reply) (decides-client m n) (λ k i o e. k (i, o, e)) (λ k closed. closed (k .0) (k .1) (k .2)) refl λ k.
+  client-first nothing s′ block′ reply rest =
+      refused-unless (λ j. slotStatus nothing m s′ block′ reply (verdictFirst j (openSlot m n))) (decides-multiplexer m) (λ k. k) (λ p k. k p) refl λ v.
+      refused-not (slotStatus nothing m s′ block′ reply) (decides-client m n) (λ k i o e. k (i, o, e)) (λ k closed. closed (k .0) (k .1) (k .2)) refl λ k.
       rw (slot-open m v (k .0) n (k .1) (k .2)) (rest v (k .0) (k .1) (k .2))
 
   -- a call on a client's port that takes a screen: 1 before the rest, and after it what the call on the port gives
   call-first : (call : PortCall) {xs : List Status} → ((i : ℕ) → GoesTo m s n i → First Done (Applies m s n r block) (call (slotAt m i .port) s block .status) xs)
       → First Done (Applies m s n r block) (onClient call (locatedOn (length s) (clientSlot m n)) m s block .status) (ScreenLength ∷ Invalid ∷ NotOpen ∷ xs)
   call-first call {xs} rest =
-      by-screen m s block _ (λ x. First Done (Applies m s n r block) x (ScreenLength ∷ Invalid ∷ NotOpen ∷ xs)) (clientSlot m n) (λ no-screen. here no-screen refl)
+      by-screen 0 m s block _ (λ x. First Done (Applies m s n r block) x (ScreenLength ∷ Invalid ∷ NotOpen ∷ xs)) (clientSlot m n) (λ no-screen. here no-screen refl)
       λ l. later (λ k. k l)
-      (client-first s block _ λ v i o e. rest i (record { valid = v; len = l; is-open = o; client = e }))
+      (client-first 0 s block _ λ v i o e. rest i (record { valid = v; len = l; is-open = o; client = e }))
 
   write-first : First Done (Applies m s n r block) (writeCall m s n block .status) (ScreenLength ∷ Invalid ∷ NotOpen ∷ [])
   unfolding written
@@ -91,12 +93,16 @@ module _ (m : Multiplexer) (s : List ℕ) (n : ℕ) (r : Rect) (block : List ℕ
       none refl
 
   close-first : First Done (Applies m s n r block) (closeCall m n .status) (Invalid ∷ NotOpen ∷ [])
-  close-first = client-first [] [] (closedAt m) (λ v i o e. none refl)
+  close-first = client-first 0 [] [] (closedAt m) (λ v i o e. none refl)
 
-  claim-first : First Done (Applies m s n r block) (slotStatus m s [] (openedAt m s n r) (claimSlot m n r)) (Invalid ∷ ClientZero ∷ PaneIllegal ∷ ClientTaken ∷ PaneShared ∷ Full ∷ [])
+  take-first : First Done (Applies m s n r block) (takeCall m n .status) (Invalid ∷ NotOpen ∷ [])
+  unfolding marksTaken
+  take-first = client-first noneTaken [] [] _ (λ v i o e. none refl)
+
+  claim-first : First Done (Applies m s n r block) (slotStatus 0 m s [] (openedAt m s n r) (claimSlot m n r)) (Invalid ∷ ClientZero ∷ PaneIllegal ∷ ClientTaken ∷ PaneShared ∷ Full ∷ [])
   unfolding multiplexerVerdict claimVerdict freeSlotFor verdictFirst onSlot
   claim-first =
-      let given = slotStatus m s [] (openedAt m s n r) in
+      let given = slotStatus 0 m s [] (openedAt m s n r) in
       refused-unless (λ j. given (verdictFirst j (verdictFirst (claimVerdict n r) (freeSlotFor m n r)))) (decides-multiplexer m) (λ k. k) (λ p k. k p) refl λ v.
       refused-if (λ j. given (verdictFirst j (freeSlotFor m n r))) (decides-eq n 0) refl λ _.
       refused-not (λ j. given (verdictFirst j (freeSlotFor m n r))) (decides-legal r) (λ k. k) (λ p k. k p) refl λ legal.
@@ -107,7 +113,7 @@ module _ (m : Multiplexer) (s : List ℕ) (n : ℕ) (r : Rect) (block : List ℕ
 
   open-first : First Done (Applies m s n r block) (openCall m s n r .status) (ScreenLength ∷ Invalid ∷ ClientZero ∷ PaneIllegal ∷ ClientTaken ∷ PaneShared ∷ Full ∷ [])
   open-first =
-      by-screen m s [] (openedAt m s n r) (λ x. First Done (Applies m s n r block) x (ScreenLength ∷ Invalid ∷ ClientZero ∷ PaneIllegal ∷ ClientTaken ∷ PaneShared ∷ Full ∷ [])) (claimSlot m n r)
+      by-screen 0 m s [] (openedAt m s n r) (λ x. First Done (Applies m s n r block) x (ScreenLength ∷ Invalid ∷ ClientZero ∷ PaneIllegal ∷ ClientTaken ∷ PaneShared ∷ Full ∷ [])) (claimSlot m n r)
       (λ no-screen. here no-screen refl) (λ l. later (λ k. k l) claim-first)
 
   pub statuses : Statuses m s n r block
@@ -117,6 +123,7 @@ module _ (m : Multiplexer) (s : List ℕ) (n : ℕ) (r : Rect) (block : List ℕ
     writing = answers-first refl (omega arith) write-first;
     returning = answers-first refl (omega arith) return-first;
     restoring = answers-first refl (omega arith) restore-first;
+    taking = answers-first refl (omega arith) take-first;
   }
 
   -- where 1 and 2 do not apply
@@ -131,6 +138,7 @@ module _ (m : Multiplexer) (s : List ℕ) (n : ℕ) (r : Rect) (block : List ℕ
       writing = answers-first refl (omega arith) (with-screen write-first);
       returning = answers-first refl (omega arith) (with-screen return-first);
       restoring = answers-first refl (omega arith) (with-screen restore-first);
+      taking = answers-first refl (omega arith) (spared (λ k. k v) take-first);
     }
 
 -- ---- at an open slot
@@ -144,6 +152,7 @@ slot-statuses m s n block i g =
     let found : Closed m n → ⊥ = λ closed. closed i (g .is-open) (g .client) in
     record {
       close-done = a .closing .each .1 .whenever (tt, found);
+      take-done = a .taking .each .1 .whenever (tt, found);
       write-done = a .writing .each .1 .whenever (tt, found);
       return-done =
           exactly-as (a .returning .each .1 .1)

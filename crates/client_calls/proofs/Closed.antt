@@ -24,7 +24,7 @@ pub record Closing (m : Multiplexer) (i : ℕ) (reply : MultiplexerReply) : Type
 
 pub closed-leaves : (m : Multiplexer) (n : ℕ) → ValidMultiplexer m → (i : ℕ) → Open m i → slotAt m i .client ≡ n → Closing m i (closeCall m n)
 closed-leaves m n v i o e =
-    rw (at-slot m [] [] (closedAt m) _ i (goes-to-slot m n v i o e))
+    rw (at-slot 0 m [] [] (closedAt m) _ i (goes-to-slot m n v i o e))
     (record {
       status = refl;
       valid = set-valid m v i (o .0) freeSlot free-valid (λ j k u z. absurd (z (unfold freeSlot in refl)));
@@ -33,7 +33,7 @@ closed-leaves m n v i o e =
     })
 
 pub close-refused : (m : Multiplexer) (n : ℕ) → ValidMultiplexer m → Closed m n → closeCall m n ≡ refusal NotOpen m [] []
-close-refused m n v h = at-refusal m [] [] (closedAt m) _ NotOpen (goes-nowhere m n v h)
+close-refused m n v h = at-refusal 0 m [] [] (closedAt m) _ NotOpen (goes-nowhere m n v h)
 
 pub close-valid : (m : Multiplexer) (n : ℕ) → ValidMultiplexer m → ValidMultiplexer (closeCall m n .state)
 close-valid m n v =

@@ -22,10 +22,8 @@ use Rattle.multiplexer.specs.Located.{clientSlot}
 use Rattle.multiplexer.specs.Calls.{MultiplexerReply, relayed, writeCall}
 use Rattle.multiplexer.proofs.Clients.{goes-nowhere, invalid-refused}
 use Rattle.multiplexer.proofs.Replying.{located-on, located-off, at-refusal}
-use Rattle.client_calls.specs.Serve.{serve}
-use Rattle.client_calls.specs.Serve.Kind.{Write}
 use Rattle.client_calls.specs.Laws.{GoesTo}
-use Rattle.client_calls.proofs.Relaying.{one-call, next-call}
+use Rattle.client_calls.proofs.Relaying.{writes, writes-next}
 
 -- a write is refused whatever its bytes, or goes to an open slot
 abbrev Refused : Multiplexer → List ℕ → ℕ → Type 0
@@ -37,11 +35,11 @@ refused-or-goes m s n =
     (λ l. ⊎-elim
     (λ (v : ValidMultiplexer m). ⊎-elim
     (λ k. inr (k .0, record { valid = v; len = l; is-open = k .1; client = k .2 }))
-    (λ h. inl (NotOpen, λ bytes. at-refusal m s bytes _ _ NotOpen (located-on s (clientSlot m n) l ∙ goes-nowhere m n v h)))
+    (λ h. inl (NotOpen, λ bytes. at-refusal 0 m s bytes _ _ NotOpen (located-on s (clientSlot m n) l ∙ goes-nowhere m n v h)))
     (client? m n))
-    (λ w. inl (Invalid, λ bytes. at-refusal m s bytes _ _ Invalid (located-on s (clientSlot m n) l ∙ invalid-refused m n w)))
+    (λ w. inl (Invalid, λ bytes. at-refusal 0 m s bytes _ _ Invalid (located-on s (clientSlot m n) l ∙ invalid-refused m n w)))
     (either (decides-multiplexer m)))
-    (λ l. inl (ScreenLength, λ bytes. at-refusal m s bytes _ _ ScreenLength (located-off s (clientSlot m n) l)))
+    (λ l. inl (ScreenLength, λ bytes. at-refusal 0 m s bytes _ _ ScreenLength (located-off s (clientSlot m n) l)))
     (either (decides-screen (length s)))
 
 relayed-cut : (m : Multiplexer) (i : ℕ) {x y z : PortReply} → SameCut x y z → SameCut (relayed m i x) (relayed m i y) (relayed m i z)
@@ -56,16 +54,14 @@ relayed-cut m i k = record {
 -- no premise: refused or not
 pub write-cut : (m : Multiplexer) (s : List ℕ) (n : ℕ) (a b : List ℕ)
     → SameCut (writeCall m s n a) (writeCall (writeCall m s n a .state) (writeCall m s n a .screen) n b) (writeCall m s n (a ++ b))
-unfolding serve
 write-cut m s n a b =
     ⊎-elim
     (λ (k : Refused m s n). simp (k .1) (record { first-status = refl; second-status = refl; state = refl; screen = refl; count = refl }))
     (λ (k : (i : ℕ) × GoesTo m s n i).
-    rw (next-call (k .1) (Write a) (Write b), one-call (k .1) (Write a), one-call (k .1) (Write (a ++ b)))
+    rw (writes-next (k .1) a b, writes (k .1) a, writes (k .1) (a ++ b))
     (relayed-cut m (k .0) (written-cut (slotAt m (k .0) .port) s a b)))
     (refused-or-goes m s n)
 
 -- 'the number of $07 taken as commands', of any write that is not refused
 pub write-bells : (m : Multiplexer) (s : List ℕ) (n i : ℕ) (bytes : List ℕ) → GoesTo m s n i → writeCall m s n bytes .result ≡ occurrences 7 (commandCodes (waitOf (slotAt m i .port)) bytes)
-unfolding serve
-write-bells m s n i bytes g = ap (λ (r : MultiplexerReply). r .result) (one-call g (Write bytes)) ∙ written-bells (slotAt m i .port) s bytes
+write-bells m s n i bytes g = ap (λ (r : MultiplexerReply). r .result) (writes g bytes) ∙ written-bells (slotAt m i .port) s bytes

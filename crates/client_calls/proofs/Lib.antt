@@ -3,6 +3,7 @@
 -- The laws: `Answers`: when each status is given. `Relaying`: a client's call is the call on its slot's port. `Cut`: a stream cut in two, and the count of a write. `RoundTrip`: a block put straight back.
 pub mod Consoles
 pub mod Serving
+pub mod Taken
 pub mod Refusals
 pub mod Opened
 pub mod Closed

@@ -9,12 +9,11 @@ use Rattle.rectangle.specs.declared.Motion.the-variants.{Clear}
 use Rattle.rectangle.specs.Cells.{Inside}
 use Rattle.rectangle.proofs.Edits.{cell-vacated}
 use Rattle.rectangle.proofs.Local.{edited-at, edit-local}
-use Rattle.port.proofs.Validity.{fresh-valid}
 use Rattle.calls.proofs.Refusals.{Unchanged}
 use Rattle.slots.specs.declared.Multiplexer.{Multiplexer}
 use Rattle.slots.specs.State.{slotAt, Open, slotOf, freshSlot}
 use Rattle.slots.specs.Valid.{ValidMultiplexer}
-use Rattle.slots.proofs.Slots.{slot-client, slot-first, slot-set, slot-kept, set-valid}
+use Rattle.slots.proofs.Slots.{opened-valid, slot-client, slot-first, slot-set, slot-kept, set-valid}
 use Rattle.multiplexer.specs.Located.{claimSlot}
 use Rattle.multiplexer.specs.Calls.{MultiplexerReply, openedAt, openCall}
 use Rattle.multiplexer.proofs.Claims.{Claims, claims, claims-lowest}
@@ -25,7 +24,7 @@ pub record Opening (m : Multiplexer) (s : List ℕ) (n : ℕ) (r : Rect) (reply 
   -- 'takes the lowest free seat' ..
   pub was-free : slotAt m (slotOf m 0) .client ≡ 0
   pub lowest : (i : ℕ) → i < slotOf m 0 → Open m i
-  -- .. 'starts a fresh port' there ..
+  -- .. 'starts a fresh port' there, with 'the pane's lines' marked ..
   pub slot : slotAt (reply .state) (slotOf m 0) ≡ freshSlot n r
   pub others : (i : ℕ) → (i ≡ slotOf m 0 → ⊥) → slotAt (reply .state) i ≡ slotAt m i
   -- .. 'and blanks the pane'
@@ -35,7 +34,7 @@ pub record Opening (m : Multiplexer) (s : List ℕ) (n : ℕ) (r : Rect) (reply 
 
 -- an opening on 1,920 cells that none of 2 to 7 refuses
 pub opens : (m : Multiplexer) (s : List ℕ) (n : ℕ) (r : Rect) → length s ≡ 1920 → Claims m n r → openCall m s n r ≡ openedAt m s n r (slotOf m 0)
-opens m s n r len o = at-slot m s [] (openedAt m s n r) _ (slotOf m 0) (located-on s (claimSlot m n r) len ∙ claims-lowest m n r o)
+opens m s n r len o = at-slot 0 m s [] (openedAt m s n r) _ (slotOf m 0) (located-on s (claimSlot m n r) len ∙ claims-lowest m n r o)
 
 pub opened-leaves : (m : Multiplexer) (s : List ℕ) (n : ℕ) (r : Rect) → length s ≡ 1920 → Claims m n r → Opening m s n r (openCall m s n r)
 opened-leaves m s n r len o =
@@ -45,7 +44,7 @@ opened-leaves m s n r len o =
     rw (opens m s n r len o)
     (record {
       valid =
-          set-valid m v (slotOf m 0) (o .room) (freshSlot n r) (λ z. absurd (o .not-zero z), λ _. fresh-valid r l)
+          set-valid m v (slotOf m 0) (o .room) (freshSlot n r) (λ z. absurd (o .not-zero z), λ _. opened-valid n r l)
           (λ i _ u _. (o .new i u, o .apart i u));
       was-free = slot-client m 0 (o .room);
       lowest = λ i h. (let k = o .room in omega arith, slot-first m 0 i h);
@@ -58,12 +57,12 @@ opened-leaves m s n r len o =
 
 -- an opening that is refused changes nothing
 pub open-refuses : (m : Multiplexer) (s : List ℕ) (n : ℕ) (r : Rect) → Unchanged m s [] (openCall m s n r)
-open-refuses m s n r = by-slot m s [] (openedAt m s n r) (Unchanged m s []) _ (λ status _ e. refl) (λ i _ e. absurd (e refl))
+open-refuses m s n r = by-slot 0 m s [] (openedAt m s n r) (Unchanged m s []) _ (λ status _ e. refl) (λ i _ e. absurd (e refl))
 
 -- every opening, refused or not, leaves a valid multiplexer
 pub open-valid : (m : Multiplexer) (s : List ℕ) (n : ℕ) (r : Rect) → ValidMultiplexer m → ValidMultiplexer (openCall m s n r .state)
 open-valid m s n r v =
-    by-slot m s [] (openedAt m s n r) (λ (x : MultiplexerReply). ValidMultiplexer (x .state)) _ (λ status _. v)
+    by-slot 0 m s [] (openedAt m s n r) (λ (x : MultiplexerReply). ValidMultiplexer (x .state)) _ (λ status _. v)
     (λ i k. let a = located-at s (claimSlot m n r) i k in
     let c = claims m n r i (a .1) in
     rw (c .1) (rw (opens m s n r (a .0) (c .0)) at (opened-leaves m s n r (a .0) (c .0) .valid)))

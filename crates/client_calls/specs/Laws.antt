@@ -14,7 +14,7 @@ use Rattle.reply.specs.Answers.{Exactly, Answers}
 use Rattle.slots.specs.declared.Multiplexer.{Multiplexer}
 use Rattle.slots.specs.State.{slotAt, pane, Open, Free, Closed}
 use Rattle.slots.specs.Valid.{ValidMultiplexer}
-use Rattle.multiplexer.specs.Calls.{writeCall, returnCall, restoreCall, openCall, closeCall}
+use Rattle.multiplexer.specs.Calls.{writeCall, returnCall, restoreCall, takeCall, openCall, closeCall}
 
 -- ---- when each status is given
 abbrev pub viewport : Multiplexer → ℕ → Rect
@@ -51,13 +51,14 @@ Applies m s n r block BlockTooShort = (i : ℕ) × Open m i × (slotAt m i .clie
 Applies m s n r block BlockMismatch = (i : ℕ) × Open m i × (slotAt m i .client ≡ n) × (Fits (viewport m i) block → ⊥)
 
 -- demand 1: 'every call comes back, with 0 or with a refusal number given exactly when its rule says'.
--- 'Open: 1 to 7. Close: 2, 8. Write: 1, 2, 8. Return: 1, 2, 8, 9. Restore: 1, 2, 8, 10.'
+-- 'Open: 1 to 7. Close: 2, 8. Write: 1, 2, 8. Return: 1, 2, 8, 9. Restore: 1, 2, 8, 10.' Request 02, of a taking: 'on a wall 2, 8'
 pub record Statuses (m : Multiplexer) (s : List ℕ) (n : ℕ) (r : Rect) (block : List ℕ) : Type 0 where
   pub opening : Answers Done statusNumber (Applies m s n r block) (ScreenLength ∷ Invalid ∷ ClientZero ∷ PaneIllegal ∷ ClientTaken ∷ PaneShared ∷ Full ∷ []) (openCall m s n r .status)
   pub closing : Answers Done statusNumber (Applies m s n r block) (Invalid ∷ NotOpen ∷ []) (closeCall m n .status)
   pub writing : Answers Done statusNumber (Applies m s n r block) (ScreenLength ∷ Invalid ∷ NotOpen ∷ []) (writeCall m s n block .status)
   pub returning : Answers Done statusNumber (Applies m s n r block) (ScreenLength ∷ Invalid ∷ NotOpen ∷ BlockTooShort ∷ []) (returnCall m s n block .status)
   pub restoring : Answers Done statusNumber (Applies m s n r block) (ScreenLength ∷ Invalid ∷ NotOpen ∷ BlockMismatch ∷ []) (restoreCall m s n block .status)
+  pub taking : Answers Done statusNumber (Applies m s n r block) (Invalid ∷ NotOpen ∷ []) (takeCall m n .status)
 
 -- of a valid multiplexer and 1,920 cells: 0 but for 8, 9, 10 and, at opening, 3 to 7, by the same rules
 pub record ValidStatuses (m : Multiplexer) (s : List ℕ) (n : ℕ) (r : Rect) (block : List ℕ) : Type 0 where
@@ -66,6 +67,7 @@ pub record ValidStatuses (m : Multiplexer) (s : List ℕ) (n : ℕ) (r : Rect) (
   pub writing : Answers Done statusNumber (Applies m s n r block) (NotOpen ∷ []) (writeCall m s n block .status)
   pub returning : Answers Done statusNumber (Applies m s n r block) (NotOpen ∷ BlockTooShort ∷ []) (returnCall m s n block .status)
   pub restoring : Answers Done statusNumber (Applies m s n r block) (NotOpen ∷ BlockMismatch ∷ []) (restoreCall m s n block .status)
+  pub taking : Answers Done statusNumber (Applies m s n r block) (NotOpen ∷ []) (takeCall m n .status)
 
 -- ---- at an open slot: client n's calls go to slot i of a valid multiplexer, with 1,920 cells
 pub record GoesTo (m : Multiplexer) (s : List ℕ) (n i : ℕ) : Type 0 where
@@ -77,6 +79,7 @@ pub record GoesTo (m : Multiplexer) (s : List ℕ) (n i : ℕ) : Type 0 where
 -- 0 but for 9 and 10, by the slot's viewport
 pub record SlotStatuses (m : Multiplexer) (s : List ℕ) (n : ℕ) (block : List ℕ) (i : ℕ) : Type 0 where
   pub close-done : closeCall m n .status ≡ Done
+  pub take-done : takeCall m n .status ≡ Done
   pub write-done : writeCall m s n block .status ≡ Done
   pub return-done : Exactly (returnCall m s n block .status) Done (blockLength (viewport m i) ≤ length block)
   pub return-short : Exactly (returnCall m s n block .status) BlockTooShort (length block < blockLength (viewport m i))

@@ -1,4 +1,4 @@
--- A block handed out and put straight back changes nothing; a good row is there. Assumes nothing.
+-- A block handed out and put straight back changes nothing but the marks; a good row is there. Assumes nothing.
 use Prim.Native.Nat.{ℕ, _≤_, _<_}
 use mathlib.Core.Path.{_≡_, ap, _∙_}
 use mathlib.Core.List.{List}
@@ -15,7 +15,7 @@ use Rattle.port.specs.Valid.{ValidPort}
 use Rattle.port.proofs.Validity.{decides-valid, viewport-on-screen}
 use Rattle.reply.specs.declared.Status.the-variants.{Done}
 use Rattle.reply.specs.Laws.{RoundTrip}
-use Rattle.calls.specs.Calls.{PortReply, blockReturned, blockRestored}
+use Rattle.calls.specs.Calls.{PortReply, viewportMarked, blockReturned, blockRestored}
 use Rattle.calls.proofs.Blocks.{handedOut, handed-out, putBack, put-back}
 use Rattle.console.specs.Calls.{returnCall, restoreCall, rowCall}
 use Rattle.console.proofs.Answers.{accepted}
@@ -31,7 +31,7 @@ module _ (p : Port) (s block : List ℕ) (v : ValidPort p) (len : length s ≡ 1
   again : restoreAfter (returnCall p s block) ≡ putBack p s block v len room
   again = ap restoreAfter returned ∙ accepted blockRestored p s _ v len ∙ put-back p s block v len room
 
-  pub block-round-trip : RoundTrip Done p s (returnCall p s block) (restoreAfter (returnCall p s block))
+  pub block-round-trip : RoundTrip Done (viewportMarked p) s (returnCall p s block) (restoreAfter (returnCall p s block))
   block-round-trip = record {
     returned-done = ap (λ (r : PortReply). r .status) returned;
     restored-done = ap (λ (r : PortReply). r .status) again;

@@ -2,7 +2,7 @@
 use Prim.Native.Nat.{ℕ, _≤_, _<_}
 use mathlib.Core.Path.{_≡_, refl, sym, subst, _∙_}
 use mathlib.Core.Bool.{Bool, true, false, cond, _&&_}
-use mathlib.Core.List.{List}
+use mathlib.Core.List.{List, []}
 use native.Mathlib.Omega.{arith}
 use lib.ListN.{length}
 use borrow.Author.Tests.{lt-ltb, le-ltb}
@@ -23,10 +23,12 @@ use Rattle.calls.specs.declared.Answer.{Answer}
 use Rattle.calls.specs.declared.Verdict.{Verdict}
 use Rattle.calls.specs.declared.Verdict.the-variants.{Accepted, Refused}
 use Rattle.calls.specs.Verdict.{screenVerdict, firstOf}
+use Rattle.calls.specs.declared.Taking.{Taking}
 use Rattle.calls.specs.Calls.{PortReply, PortCall, answerOf}
+use Rattle.calls.specs.Taking.{takenOf, noneTaken, marksTaken, takingOf}
 use Rattle.calls.proofs.Verdicts.{accepted-by, screen-accepted, both-accepted, on-accepted, on-refused}
 use Rattle.console.specs.declared.ByteAnswer.{ByteAnswer}
-use Rattle.console.specs.Calls.{portVerdict, plainVerdict, plainCall, rowCall}
+use Rattle.console.specs.Calls.{portVerdict, plainVerdict, plainCall, takeCall, rowCall}
 
 module _ (p : Port) (s : List ℕ) (j : Verdict) (is : j ≡ plainVerdict p (length s)) where
   -- ---- what a verdict shows
@@ -73,6 +75,19 @@ module _ (p : Port) (s : List ℕ) (j : Verdict) (is : j ≡ plainVerdict p (len
   a-row : (row n : ℕ) → j ≡ Accepted → n ≡ heightOf (p .view .viewport) → row < n → rowCall p (length s) row ≡ rowStretch (p .view .viewport) row
   unfolding rowCall
   a-row row n e h small = simp (good e, lt-ltb row (heightOf (p .view .viewport)) (omega arith))
+
+-- ---- a taking, which needs no screen
+module _ (p : Port) (j : Verdict) (is : j ≡ portVerdict p) where
+  pub taken-port : j ≡ Accepted → ValidPort p
+  unfolding portVerdict
+  taken-port e = decides-valid p .holds (accepted-by (validPort p) Invalid (sym is ∙ e))
+
+  pub take-refused-by : (status : Status) (a : Taking) → j ≡ Refused status → a ≡ takingOf status p noneTaken → Replies (takeCall p) (a .status) (a .port) (takenOf (a .marks) (a .count)) [] []
+  take-refused-by status a e h =
+      rw (on-refused noneTaken p [] [] (marksTaken p [] []) status (sym is ∙ e), h) (record { status-is = refl; state-is = refl; result-is = refl; cells = refl; bytes = refl })
+
+  pub take-done-by : (a : Taking) → j ≡ Accepted → Replies (marksTaken p [] []) (a .status) (a .port) (takenOf (a .marks) (a .count)) [] [] → Replies (takeCall p) (a .status) (a .port) (takenOf (a .marks) (a .count)) [] []
+  take-done-by a e h = rw (on-accepted noneTaken p [] [] (marksTaken p [] []) (sym is ∙ e)) h
 
 -- ---- the part of the lent screen that a row view hands back
 module _ (p : Port) (lent part : RefT (List ℕ)) (j : Verdict) (is : j ≡ plainVerdict p (length (now lent))) (row : ℕ) where

@@ -1,6 +1,7 @@
--- Paper 01, 'What comes back' and 'Blocks, rows, one byte': the plain calls, with their refusals. Assumes nothing.
+-- Paper 01, 'What comes back' and 'Blocks, rows, one byte', and request 02: the plain calls, with their refusals. Assumes nothing.
 use Prim.Native.Nat.{ℕ}
 use mathlib.Core.Bool.{cond, _&&_}
+use mathlib.Core.List.{[]}
 use lib.Dec.{ltb}
 use lib.ListN.{length}
 use Rattle.laws.specs.Parts.{Stretch, noStretch}
@@ -10,11 +11,14 @@ use Rattle.block.specs.Block.{rowStretch}
 use Rattle.port.specs.declared.Port.{Port}
 use Rattle.port.specs.State.{freshPort}
 use Rattle.port.specs.Valid.{validPort}
+use Rattle.reply.specs.declared.Status.{Status}
 use Rattle.reply.specs.declared.Status.the-variants.{Invalid}
+use Rattle.reply.specs.Reply.{Reply}
 use Rattle.calls.specs.declared.Verdict.{Verdict}
 use Rattle.calls.specs.declared.Verdict.the-variants.{Accepted, Refused}
 use Rattle.calls.specs.Verdict.{screenVerdict, firstOf, onVerdict}
 use Rattle.calls.specs.Calls.{PortCall, written, blockReturned, blockRestored}
+use Rattle.calls.specs.Taking.{Taken, noneTaken, marksTaken}
 
 -- 'a plain console starts with home (0,0,79,23)'
 abbrev pub freshConsole : Port
@@ -41,6 +45,10 @@ returnCall = plainCall blockReturned
 
 abbrev pub restoreCall : PortCall
 restoreCall = plainCall blockRestored
+
+-- request 02: a taking needs no screen; 'refusals, with no marks and 0: 2'
+abbrev pub takeCall : Port → Reply Status Port Taken
+takeCall p = onVerdict noneTaken (portVerdict p) p [] [] (marksTaken p [] [])
 
 -- row view: 'that stretch of the lent screen itself .. an empty stretch if the row, screen length or port is bad'
 unfoldable pub rowCall : Port → ℕ → ℕ → Stretch

@@ -2,9 +2,11 @@
 // A call is judged here and made in `calls`.
 use block::row_stretch;
 use calls::Answer;
+use calls::Taking;
 use calls::Verdict;
 use calls::answer_of;
 use calls::screen_verdict;
+use calls::taking_of;
 use port::Port;
 use port::state::fresh_port;
 use port::valid::valid_port;
@@ -19,7 +21,8 @@ ghost use lib.ListN.{length};
 ghost use Rattle.laws.specs.Parts.{IsPart};
 ghost use Rattle.reply.specs.Reply.{Replies};
 ghost use Rattle.calls.specs.Calls.{answerOf};
-ghost use Rattle.console.specs.Calls.{freshConsole, writeCall, returnCall, restoreCall, rowCall, portVerdict, plainVerdict};
+ghost use Rattle.calls.specs.Taking.{takenOf};
+ghost use Rattle.console.specs.Calls.{freshConsole, writeCall, returnCall, restoreCall, takeCall, rowCall, portVerdict, plainVerdict};
 
 // A fresh port of the whole screen.
 pub fn fresh_console() -> Port
@@ -150,7 +153,7 @@ pub fn return_block(p: Port, screen: &[u8], block: &mut [u8]) -> Answer
     }
 }
 
-// Puts a block's text into the viewport. The cursor stays.
+// Puts a block's text into the viewport, whose lines are marked. The cursor stays.
 pub fn restore_block(p: Port, screen: &mut [u8], block: &[u8]) -> Answer
     ensures { λ r. ⌜ Replies (restoreCall p (now (screen .entry)) (now (block .entry))) (r .status) (r .port) (r .count) (now (screen .exit)) (now (block .entry)) ⌝ }
 {
@@ -158,6 +161,17 @@ pub fn restore_block(p: Port, screen: &mut [u8], block: &[u8]) -> Answer
     match verdict {
         Verdict::Refused(status) => answer_of(status, p, 0),
         Verdict::Accepted => calls::restore_block(p, screen, block),
+    }
+}
+
+// Hands the marks of the lines that were stored to out, with their number, and clears them. No screen is lent.
+pub fn take_marks(p: Port) -> Taking
+    ensures { λ r. ⌜ Replies (takeCall p) (r .status) (r .port) (takenOf (r .marks) (r .count)) [] [] ⌝ }
+{
+    let verdict = port_verdict(p);
+    match verdict {
+        Verdict::Refused(status) => taking_of(status, p, 0, 0),
+        Verdict::Accepted => calls::take_marks(p),
     }
 }
 

@@ -6,6 +6,7 @@ use native.Mathlib.Omega.{arith}
 use borrow.Author.Tests.{lt-ltb, le-ltb, ne-eqb}
 use Rattle.rectangle.specs.declared.Rect.{Rect}
 use Rattle.rectangle.specs.Edit.{draw}
+use Rattle.marks.specs.Marks.{markedBy}
 use Rattle.port.specs.declared.View.{View}
 use Rattle.port.specs.declared.Port.{Port}
 use Rattle.port.specs.Valid.{parameters}
@@ -26,7 +27,7 @@ use Rattle.printer.specs.Execute.{AllOnScreen, Drew, Obeyed}
 use Rattle.printer.specs.Print.{Placed}
 use Rattle.printer.proofs.Draws.{on-screen}
 use Rattle.control.specs.declared.active.Active.{Active}
-use Rattle.control.specs.Active.{withActive, withView, waitFor, gatherOne}
+use Rattle.control.specs.Active.{withActive, withView, withDrawn, waitFor, gatherOne}
 
 -- what keeps a view that is placed edits on the screen only
 on-screen-effect : {v : View} {e : Effect} → Placed v → KeepsView (v .viewport) v e → AllOnScreen (e .edits)
@@ -45,6 +46,10 @@ planned-on-screen m = plan-on-screen (planEffect m)
 pub spaces-on-screen : (n : ℕ) (v : View) → Placed v → AllOnScreen (printSpaces n v .edits)
 spaces-on-screen n v h = on-screen-effect h (keeps-spaces (v .viewport) n v h)
 
+-- the active part after an effect
+abbrev afterEffect : Active → Effect → Active
+afterEffect a e = withDrawn a (e .view) (markedBy (a .marks) (e .edits))
+
 -- the kinds of arms
 module _ (p : Port) (a : Active) {r : Active} {s : List ℕ} where
   pub obeyed-idle : r ≡ a → (n : ℕ) → Obeyed (record { port = withActive p a; edits = []; bells = n }) (withActive p r) s s
@@ -59,9 +64,9 @@ module _ (p : Port) (a : Active) {r : Active} {s : List ℕ} where
   unfolding draw
   obeyed-view {u} {v} e f = record { port-is = ap (withActive p) (e ∙ ap (withView a) f); cells = refl }
 
-  pub obeyed-effect : {t : List ℕ} {d e : Effect} → r ≡ withView a (d .view) → t ≡ draw (d .edits) s → d ≡ e → Obeyed (onView (withActive p a) e) (withActive p r) s t
+  pub obeyed-effect : {t : List ℕ} {d e : Effect} → r ≡ afterEffect a d → t ≡ draw (d .edits) s → d ≡ e → Obeyed (onView (withActive p a) e) (withActive p r) s t
   obeyed-effect {t} {d} {e} to drawn is = record {
-    port-is = ap (withActive p) (to ∙ ap (λ (x : Effect). withView a (x .view)) is);
+    port-is = ap (withActive p) (to ∙ ap (afterEffect a) is);
     cells = drawn ∙ ap (λ (x : Effect). draw (x .edits) s) is;
   }
 
@@ -70,8 +75,8 @@ module _ (p : Port) (a done : Active) (waits : done ≡ waitFor a 0) {r : Active
   pub performed-view : {u v : View} → r ≡ withView done u → u ≡ v → Obeyed (onView (port.waitFor (withActive p a) 0) (becomes v)) (withActive p r) s s
   performed-view {u} {v} e f = obeyed-view p (waitFor a 0) (e ∙ ap (λ (x : Active). withView x u) waits) f
 
-  pub performed-effect : {t : List ℕ} {d e : Effect} → r ≡ withView done (d .view) → t ≡ draw (d .edits) s → d ≡ e → Obeyed (onView (port.waitFor (withActive p a) 0) e) (withActive p r) s t
-  performed-effect {t} {d} to drawn is = obeyed-effect p (waitFor a 0) (to ∙ ap (λ (x : Active). withView x (d .view)) waits) drawn is
+  pub performed-effect : {t : List ℕ} {d e : Effect} → r ≡ afterEffect done d → t ≡ draw (d .edits) s → d ≡ e → Obeyed (onView (port.waitFor (withActive p a) 0) e) (withActive p r) s t
+  performed-effect {t} {d} to drawn is = obeyed-effect p (waitFor a 0) (to ∙ ap (λ (x : Active). afterEffect x d) waits) drawn is
 
   -- $02, at home
   pub performed-size : (home : Rect) {u : View} (v : View) (left top right bottom : ℕ) → r ≡ withView done u → u ≡ setPortSize home v left top right bottom → p .home ≡ home
@@ -79,21 +84,21 @@ module _ (p : Port) (a done : Active) (waits : done ≡ waitFor a 0) {r : Active
   performed-size home v left top right bottom e f at = performed-view e (f ∙ ap (λ (x : Rect). setPortSize x v left top right bottom) (sym at))
 
   -- $10
-  pub performed-spaces : {t : List ℕ} {w : View} (v : View) (n b : ℕ) → r ≡ withView done w → Drew (printSpaces n v) w s t → n ≡ spaceCount v b
+  pub performed-spaces : {t : List ℕ} {w : View} {after : ℕ} (v : View) (n b : ℕ) → r ≡ withDrawn done w after → Drew (printSpaces n v) (done .marks) w after s t → n ≡ spaceCount v b
       → Obeyed (onView (port.waitFor (withActive p a) 0) (dleSpaceExpansion v b)) (withActive p r) s t
   performed-spaces v n b e d count =
-      performed-effect (e ∙ ap (withView done) (d .view)) (d .cells) (ap (λ (x : ℕ). printSpaces x v) count ∙ spaces-are v b)
+      performed-effect (e ∙ (λ i. withDrawn done (d .view i) (d .marks i))) (d .cells) (ap (λ (x : ℕ). printSpaces x v) count ∙ spaces-are v b)
 
 -- a code by its number
 pub at-code : {x : Port} {s t : List ℕ} (p : Port) (code k : ℕ) → code ≡ k → Obeyed (control p k) x s t → Obeyed (control p code) x s t
 at-code p code k e h = rw e h
 
--- an equal view
-pub in-view : (a : Active) {r : Active} {u v : View} → r ≡ withView a u → u ≡ v → r ≡ withView a v
-in-view a is same = is ∙ ap (withView a) same
+-- what was drawn is an effect
+pub drawn-as : {e : Effect} (a : Active) {r : Active} {u : View} {after : ℕ} {s t : List ℕ} → Drew e (a .marks) u after s t → r ≡ withDrawn a u after → r ≡ withDrawn a (e .view) (markedBy (a .marks) (e .edits))
+drawn-as a d is = is ∙ (λ i. withDrawn a (d .view i) (d .marks i))
 
 -- the active part is put back by two setters
-pub active-joined : (p : Port) (a : Active) {q r : Port} → q ≡ state.withView p (a .view) → r ≡ state.withWait q (a .waiting) (a .gathered) (a .count) → r ≡ withActive p a
+pub active-joined : (p : Port) (a : Active) {q r : Port} → q ≡ state.withDrawn p (a .view) (a .marks) → r ≡ state.withWait q (a .waiting) (a .gathered) (a .count) → r ≡ withActive p a
 active-joined p a first second = second ∙ ap (λ (x : Port). state.withWait x (a .waiting) (a .gathered) (a .count)) first
 
 -- none of the codes from low on, n of them: what the last arm of a `match` knows

@@ -7,17 +7,21 @@ use Rattle.port.specs.State as state
 use Rattle.control.specs.declared.active.Active.{Active}
 
 abbrev pub activeOf : Port → Active
-activeOf p = record { view = p .view; waiting = p .waiting; gathered = p .gathered; count = p .count }
+activeOf p = record { marks = p .marks; view = p .view; waiting = p .waiting; gathered = p .gathered; count = p .count }
 
 -- the port with another active part: its home and what is saved stay
 abbrev pub withActive : Port → Active → Port
-withActive p a = state.withWait (state.withView p (a .view)) (a .waiting) (a .gathered) (a .count)
+withActive p a = state.withWait (state.withDrawn p (a .view) (a .marks)) (a .waiting) (a .gathered) (a .count)
 
 abbrev pub withView : Active → View → Active
-withView a view = record { view = view; waiting = a .waiting; gathered = a .gathered; count = a .count }
+withView a view = record { marks = a .marks; view = view; waiting = a .waiting; gathered = a .gathered; count = a .count }
+
+-- the view and the marks that drawing leaves
+abbrev pub withDrawn : Active → View → ℕ → Active
+withDrawn a view marks = record { marks = marks; view = view; waiting = a .waiting; gathered = a .gathered; count = a .count }
 
 abbrev pub waitFor : Active → ℕ → Active
-waitFor a code = record { view = a .view; waiting = code; gathered = state.noParameters; count = 0 }
+waitFor a code = record { marks = a .marks; view = a .view; waiting = code; gathered = state.noParameters; count = 0 }
 
 abbrev pub gatherOne : Active → ℕ → Active
-gatherOne a b = record { view = a .view; waiting = a .waiting; gathered = set (a .gathered) (a .count) b; count = a .count + 1 }
+gatherOne a b = record { marks = a .marks; view = a .view; waiting = a .waiting; gathered = set (a .gathered) (a .count) b; count = a .count + 1 }

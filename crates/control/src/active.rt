@@ -1,12 +1,14 @@
-// The active part of a port: its view and the command that waits, which bytes touch. Home and what is saved stand apart from it, so that a loop over bytes need not carry them.
+// The active part of a port: its view, its marks and the command that waits, which bytes touch. Home and what is saved stand apart from it, so that a loop over bytes need not carry them.
 use port::Port;
 use port::View;
 use port::state;
+use printer::draw::Drawn;
 ghost use mathlib.Core.Path.{_≡_};
 ghost use Prim.Native.Nat.{_<_};
 ghost use Rattle.control.specs.Active as rules;
 
 pub struct Active {
+    pub marks: u32,
     pub view: View,
     pub waiting: u8,
     pub gathered: [u8; 4],
@@ -20,6 +22,7 @@ pub fn active_of(p: Port) -> Active
     let gathered = p.gathered;
     Active {
         view,
+        marks: p.marks,
         waiting: p.waiting,
         gathered,
         count: p.count,
@@ -31,7 +34,12 @@ pub fn with_active(p: Port, a: Active) -> Port
     ensures { λ r. ⌜ r ≡ rules.withActive p a ⌝ }
 {
     let gathered = a.gathered;
-    state::with_wait(state::with_view(p, a.view), a.waiting, gathered, a.count)
+    state::with_wait(
+        state::with_drawn(p, a.view, a.marks),
+        a.waiting,
+        gathered,
+        a.count,
+    )
 }
 
 pub fn with_view(a: Active, view: View) -> Active
@@ -39,6 +47,17 @@ pub fn with_view(a: Active, view: View) -> Active
 {
     let mut next = a;
     next.view = view;
+    next
+}
+
+// The view and the marks that drawing leaves.
+pub fn with_drawn(a: Active, drawn: Drawn) -> Active
+    ensures { λ r. ⌜ r ≡ rules.withDrawn a (drawn .view) (drawn .marks) ⌝ }
+{
+    let view = drawn.view;
+    let mut next = a;
+    next.view = view;
+    next.marks = drawn.marks;
     next
 }
 

@@ -4,6 +4,7 @@ pub mod active;
 use active::Active;
 use active::gather_one;
 use active::wait_for;
+use active::with_drawn;
 use active::with_view;
 use charset::stored_byte;
 use port::valid::parameters;
@@ -29,28 +30,29 @@ ghost use Prim.Native.Nat.{_<_};
 ghost use mathlib.Core.Path.{_≡_};
 ghost use lib.ListN.{length};
 ghost use Rattle.rectangle.specs.Edit.{draw};
+ghost use Rattle.marks.specs.Marks.{markedBy};
 ghost use Rattle.charset.specs.Stored.{ControlCode, Agrees};
 ghost use Rattle.port.specs.Step as rules;
 ghost use Rattle.view.specs.Plan.{effectOf, planEffect};
 ghost use Rattle.printer.specs.Execute.{AllOnScreen};
 ghost use Rattle.printer.specs.Print.{Placed};
-ghost use Rattle.control.specs.Active.{withView};
+ghost use Rattle.control.specs.Active.{withDrawn};
 ghost use Rattle.control.specs.Obey.{Ready, Obeys, ObeysAt};
 
 // The view that a code plans, with at most one edit, is drawn.
 fn moved(screen: &mut [u8], a: Active, to: Moved) -> Active
     requires { ⌜ AllOnScreen (effectOf to .edits) × (length (now screen) ≡ 1920) ⌝ }
-    ensures { λ r. ⌜ (r ≡ withView a (effectOf to .view)) × (now (screen .exit) ≡ draw (effectOf to .edits) (now (screen .entry))) ⌝ }
+    ensures { λ r. ⌜ (r ≡ withDrawn a (effectOf to .view) (markedBy (a .marks) (effectOf to .edits))) × (now (screen .exit) ≡ draw (effectOf to .edits) (now (screen .entry))) ⌝ }
 {
-    with_view(a, draw_moved(screen, to))
+    with_drawn(a, draw_moved(screen, a.marks, to))
 }
 
 // The same with at most two.
 fn planned(screen: &mut [u8], a: Active, to: ViewPlan) -> Active
     requires { ⌜ AllOnScreen (planEffect to .edits) × (length (now screen) ≡ 1920) ⌝ }
-    ensures { λ r. ⌜ (r ≡ withView a (planEffect to .view)) × (now (screen .exit) ≡ draw (planEffect to .edits) (now (screen .entry))) ⌝ }
+    ensures { λ r. ⌜ (r ≡ withDrawn a (planEffect to .view) (markedBy (a .marks) (planEffect to .edits))) × (now (screen .exit) ≡ draw (planEffect to .edits) (now (screen .entry))) ⌝ }
 {
-    with_view(a, draw_plan(screen, to))
+    with_drawn(a, draw_plan(screen, a.marks, to))
 }
 
 // A control code but $01 and $04, which touch what is saved: each by its own arm, and the last is $1F. The bell of $07 is the caller's to count.
@@ -111,7 +113,10 @@ fn perform(screen: &mut [u8], table: &[u8; 768], home: Rect, a: Active, b: u8) -
         0x06 => with_view(done, place::set_vertical(v, b)),
         0x10 => {
             let space = stored_byte(table, mode_of(v), 0x20);
-            with_view(done, print_spaces(screen, v, space, space_count(v, b)))
+            with_drawn(
+                done,
+                print_spaces(screen, v, done.marks, space, space_count(v, b)),
+            )
         }
         0x14 => with_view(done, place::set_horizontal(v, b)),
         0x15 => with_view(done, set_cursor_movement(v, b)),

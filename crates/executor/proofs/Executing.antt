@@ -1,12 +1,12 @@
 -- The loop over a stream. Assumes nothing.
-use Prim.Native.Nat.{ℕ, zero, suc, _+_, _≤_, _<_}
+use Prim.Native.Nat.{ℕ, _+_, _≤_, _<_}
 use mathlib.Core.Path.{_≡_, refl, sym, ap, _∙_, subst}
 use mathlib.Core.Bool.{Bool, true, false, cond, _&&_, _||_, true≢false}
 use mathlib.Core.Logic.{_⊎_, inl, inr, ⊎-elim}
 use mathlib.Core.List.{List, [], _∷_, _++_}
 use native.Mathlib.Omega.{arith}
 use native.Mathlib.Nat.{add-assoc, add-zero, zero-add}
-use lib.Dec.{leb, ltb, eqb}
+use lib.Dec.{ltb, eqb}
 use lib.ListN.{length, take, drop, getD, take-append-drop}
 use lib.Seq.{drop-drop, drop-length}
 use borrow.Author.Tests.{eqb-true, eqb-false, eq-eqb, ne-eqb, leb-true, leb-false, lt-ltb}
@@ -17,7 +17,7 @@ use Rattle.rectangle.specs.Edit.{draw}
 use Rattle.charset.specs.Stored.{isPrinting, Printing, storedByte}
 use Rattle.port.specs.declared.View.{View}
 use Rattle.port.specs.declared.Port.{Port}
-use Rattle.port.specs.State.{withView}
+use Rattle.port.specs.State.{withView, withDrawn}
 use Rattle.port.specs.Valid.{parameters, ValidPort}
 use Rattle.port.specs.Codes.{modeOf, printByte}
 use Rattle.port.specs.Step.{Outcome, becomesPort, pop, control, step}
@@ -138,13 +138,13 @@ saving-keeps-home p next code saves either =
     ⊎-elim (λ e. ap (λ (m : Outcome). m .port .home) (saves ∙ ap (control p) e)) (λ e. ap (λ (m : Outcome). m .port .home) (saves ∙ ap (control p) e)) either
 
 -- a printing code alone
-pub single-printed : (p : Port) (b byte : ℕ) (test : Bool) {q : Port} {w : View} {s t : List ℕ} → test ≡ (eqb (p .waiting) 0 && isPrinting b) → test ≡ true → byte ≡ storedByte (modeOf (p .view)) b
-    → Drew (printByte (p .view) byte) w s t
-    → q ≡ withView p w
+pub single-printed : (p : Port) (b byte : ℕ) (test : Bool) {q : Port} {w : View} {after : ℕ} {s t : List ℕ} → test ≡ (eqb (p .waiting) 0 && isPrinting b) → test ≡ true → byte ≡ storedByte (modeOf (p .view)) b
+    → Drew (printByte (p .view) byte) (p .marks) w after s t
+    → q ≡ withDrawn p w after
     → Executed (stream p (b ∷ [])) q 0 s t
-single-printed p b byte test {q} {w} {s} {t} is yes′ stored drew to =
+single-printed p b byte test {q} {w} {after} {s} {t} is yes′ stored drew to =
     let printed = is-printed (p .waiting) b test is yes′ in
-    subst (λ (x : Port). Executed (stream p (b ∷ [])) x 0 s t) (sym to) (single-executed p (withView p w) b 0 s t (code-executed p b byte (printed .0) (printed .1) stored w s t drew))
+    subst (λ (x : Port). Executed (stream p (b ∷ [])) x 0 s t) (sym to) (single-executed p (withDrawn p w after) b 0 s t (code-executed p b byte (printed .0) (printed .1) stored w after s t drew))
 
 pub saved-home : (p : Port) (a : Active) (q : Port) {next : Port} {home : Rect} (code : ℕ) → q ≡ withActive p a → becomesPort next ≡ control q code → (code ≡ 1) ⊎ (code ≡ 4) → p .home ≡ home → next .home ≡ home
 saved-home p a q {next} code joined saves either at = saving-keeps-home q next code saves either ∙ ap (λ (x : Port). x .home) joined ∙ at
@@ -201,11 +201,11 @@ module _ {p₀ : Port} {bs s₀ : List ℕ} {i : ℕ} (p : Port) (a : Active) {r
   silent : (q : Port) (n : ℕ) (t : List ℕ) → i + n ≤ length bs → Executed (stream (withActive p a) (take n (drop i bs))) q 0 s t → Streaming p₀ bs s₀ (i + n) q rung t
   silent q n t inside d = subst (λ (x : ℕ). Streaming p₀ bs s₀ (i + n) q x t) (add-zero rung) (streaming-on r q n 0 t inside (omega arith) d)
 
-  pub after-printing : (n : ℕ) (w : View) (t : List ℕ) {a′ : Active} → Printed (a .view) (take n (drop i bs)) w s t → i + n ≤ length bs → a .waiting ≡ 0 → a′ ≡ active.withView a w
+  pub after-printing : (n : ℕ) (w : View) (marks : ℕ) (t : List ℕ) {a′ : Active} → Printed (a .view) (a .marks) (take n (drop i bs)) w marks s t → i + n ≤ length bs → a .waiting ≡ 0 → a′ ≡ active.withDrawn a w marks
       → Streaming p₀ bs s₀ (i + n) (withActive p a′) rung t
-  after-printing n w t printed inside none is =
+  after-printing n w marks t printed inside none is =
       subst (λ (x : Active). Streaming p₀ bs s₀ (i + n) (withActive p x) rung t) (sym is)
-      (silent (withView (withActive p a) w) n t inside (printed .as-stream (withActive p a) refl none))
+      (silent (withDrawn (withActive p a) w marks) n t inside (printed .as-stream (withActive p a) refl none refl))
 
   pub after-saving : (q : Port) {next : Port} {a′ : Active} → q ≡ withActive p a → becomesPort next ≡ control q (getD bs i 0) → a′ ≡ activeOf next → i < length bs → a .waiting ≡ 0 → (getD bs i 0 ≡ 1) ⊎ (getD bs i 0 ≡ 4)
       → Streaming p₀ bs s₀ (i + 1) (withActive next a′) rung s

@@ -5,7 +5,7 @@ use charset::stored_alone;
 use charset::table_copy;
 use control::active::active_of;
 use control::active::with_active;
-use control::active::with_view;
+use control::active::with_drawn;
 use control::step;
 use port::Port;
 use port::state;
@@ -65,8 +65,8 @@ pub fn execute_stream(screen: &mut [u8], p: Port, bytes: &[u8]) -> Progress
     while i < bytes.len() {
         let b = bytes[i];
         if prints(active.waiting, b) {
-            let printed = print_codes(screen, &table, active.view, bytes, i);
-            active = with_view(active, printed.view);
+            let printed = print_codes(screen, &table, active.view, active.marks, bytes, i);
+            active = with_drawn(active, printed.drawn);
             i += printed.count;
             continue;
         }
@@ -94,9 +94,9 @@ pub fn execute_byte(screen: &mut [u8], p: Port, b: u8) -> Progress
 {
     if prints(p.waiting, b) {
         let byte = stored_alone(mode_of(p.view), b);
-        let view = print_byte(screen, p.view, byte);
+        let drawn = print_byte(screen, p.view, p.marks, byte);
         return Progress {
-            port: state::with_view(p, view),
+            port: state::with_drawn(p, drawn.view, drawn.marks),
             bells: 0,
         };
     }

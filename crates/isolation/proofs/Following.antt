@@ -11,13 +11,12 @@ use Rattle.rectangle.specs.Local.{Agree}
 use Rattle.port.specs.declared.Port.{Port}
 use Rattle.port.specs.Valid.{ValidPort}
 use Rattle.reply.specs.Numbers.{statusNumber}
-use Rattle.calls.specs.Calls.{PortReply}
 use Rattle.slots.specs.declared.Slot.{Slot}
 use Rattle.slots.specs.declared.Multiplexer.{Multiplexer}
 use Rattle.slots.specs.State.{slotAt, pane, Open}
 use Rattle.slots.specs.Valid.{ValidMultiplexer}
 use Rattle.slots.proofs.Slots.{slot-set}
-use Rattle.client_calls.specs.Serve.{Call, callOnPort, serve}
+use Rattle.client_calls.specs.Serve.{CallReply, Call, callOnPort, serve}
 use Rattle.isolation.specs.Isolation.{answerFrom, serveAll, standalone, callsOf, answersTo}
 use Rattle.client_calls.proofs.Consoles.{keeps-call, alike-call}
 use Rattle.client_calls.proofs.Serving.{goes-to, frame}
@@ -39,7 +38,7 @@ module _ (i n : ℕ) (small : i < 4) (is-open : n ≡ 0 → ⊥) where
     port-valid : ValidPort p
     port-valid = rw e at (v .ports i here)
 
-    reply : PortReply
+    reply : CallReply Port
     reply = callOnPort (c .kind) p t
 
     record Own : Type 0 where
@@ -56,7 +55,7 @@ module _ (i n : ℕ) (small : i < 4) (is-open : n ≡ 0 → ⊥) where
         record {
           slot = rw (o, e) (slot-set m v i small _ ∙ λ k. record { client = n; port = b .state k });
           cells = rw (o, e) (b .cells);
-          answer = rw (o, e) (λ k. record { number = statusNumber (b .status k); count = b .result k; block = b .block k });
+          answer = rw (o, e) (λ k. record { number = statusNumber (b .status k); count = b .result k .count; marks = b .result k .marks; block = b .block k });
         }
 
     -- a call of another

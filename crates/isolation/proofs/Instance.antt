@@ -5,8 +5,9 @@ use mathlib.Core.Path.{_≡_, refl, ap, _∙_, subst}
 use mathlib.Core.Bool.{Bool, true, false, cond}
 use mathlib.Core.List.{List, [], _∷_, map}
 use lib.Dec.{eqb}
-use lib.ListN.{length, getD}
+use lib.ListN.{getD}
 use borrow.Author.Tests.{eqb-true}
+use Rattle.laws.specs.Bits.{bit, countBelow}
 use Rattle.laws.proofs.Tests.{not-both}
 use Rattle.rectangle.specs.declared.Rect.{Rect}
 use Rattle.rectangle.specs.declared.Motion.the-variants.{Clear}
@@ -19,14 +20,16 @@ use Rattle.screen.proofs.Sizes.{blank-size}
 use Rattle.block.specs.Block.{blockLength, blockFits, blockPlace}
 use Rattle.block.proofs.Restores.{restored-inside}
 use Rattle.charset.specs.Stored.{inRange, storedSymbol, storedCapital, storedHigh, storedByte}
+use Rattle.marks.specs.Marks.{marked, lineCount}
 use Rattle.port.specs.declared.Port.{Port}
-use Rattle.port.specs.State.{cursorAt, withView, freshPort}
+use Rattle.port.specs.State.{cursorAt, withDrawn}
 use Rattle.port.specs.Valid.{parameters}
 use Rattle.port.specs.Codes.{moveCursorRight, modeOf, storeCell, advance, printByte, print}
 use Rattle.port.specs.Step.{control, obey, step}
 use Rattle.port.specs.Stream.{stream}
 use Rattle.reply.specs.declared.Status.the-variants.{Done}
 use Rattle.calls.specs.Calls.{PortReply, written, blockReturned, blockRestored}
+use Rattle.calls.specs.Taking.{marksTaken}
 use Rattle.slots.specs.declared.Multiplexer.{Multiplexer}
 use Rattle.slots.specs.State.{freeSlot, freshMultiplexer, Open, slotOf, hasClient, freshSlot, Closed}
 use Rattle.slots.specs.Panes.{paneShared}
@@ -37,7 +40,7 @@ use Rattle.multiplexer.specs.Calls.{MultiplexerReply, openCall}
 use Rattle.multiplexer.proofs.Claims.{Claims, decides-pane-shared}
 use Rattle.client_calls.specs.Serve.{Kind, Call, callBy, serve}
 use Rattle.isolation.specs.Isolation.{Answer, serveAll, callsOf, standalone, answersTo, Isolated, SameEnd}
-use Rattle.client_calls.specs.Serve.Kind.{Write, Return, Restore}
+use Rattle.client_calls.specs.Serve.Kind.{Write, Return, Restore, Take}
 use Rattle.client_calls.proofs.Opened.{opens, open-valid}
 use Rattle.client_calls.proofs.Closed.{fresh-multiplexer}
 use Rattle.isolation.proofs.Isolation.{isolation}
@@ -114,6 +117,10 @@ calls =
     ∷ callBy 200 (Return (1 ∷ []))
     ∷ callBy 200 (Restore (2 ∷ 2 ∷ 10 ∷ 11 ∷ 12 ∷ 13 ∷ []))
     ∷ callBy 7 (Restore (3 ∷ []))
+    ∷ callBy 7 Take
+    ∷ callBy 200 Take
+    ∷ callBy 9 Take
+    ∷ callBy 7 Take
     ∷ []
 
 instance-isolated : Isolated serve pair blankScreen calls
@@ -127,39 +134,44 @@ pub right-open : Open pair 1
 unfolding pair
 right-open = (omega arith, λ e. omega arith)
 
--- what the two writes leave: a stored letter, the cursor one to the right, and a bell for $07
+-- a port just opened
+abbrev opened : Rect → Port
+opened home = freshSlot 7 home .port
+
+-- what the two writes leave: a stored letter, the cursor one to the right, its line marked, and a bell for $07
 wroteIn : Rect → List ℕ → List ℕ → ℕ → ℕ → PortReply
 wroteIn home s bytes stored bells =
-    let p : Port = freshPort home in
+    let p : Port = opened home in
     record {
       status = Done;
-      state = withView p (cursorAt (p .view) (home .left + 1) (home .top));
+      state = withDrawn p (cursorAt (p .view) (home .left + 1) (home .top)) (marked (p .marks) (home .top) (home .top));
       result = bells;
       screen = edited (rectOf (home .left) (home .top) (home .left) (home .top)) Clear stored s;
       block = bytes;
     }
 
-wrote-7 : (s : List ℕ) → written (freshPort leftPane) s (0x41 ∷ 0x07 ∷ []) ≡ wroteIn leftPane s (0x41 ∷ 0x07 ∷ []) 0x81 1
+wrote-7 : (s : List ℕ) → written (opened leftPane) s (0x41 ∷ 0x07 ∷ []) ≡ wroteIn leftPane s (0x41 ∷ 0x07 ∷ []) 0x81 1
 unfolding wroteIn written draw stream step parameters control obey print printByte storeCell advance moveCursorRight modeOf storedByte storedSymbol storedCapital storedHigh inRange
 wrote-7 s = refl
 
-wrote-200 : (s : List ℕ) → written (freshPort rightPane) s (0x42 ∷ []) ≡ wroteIn rightPane s (0x42 ∷ []) 0x82 0
+wrote-200 : (s : List ℕ) → written (opened rightPane) s (0x42 ∷ []) ≡ wroteIn rightPane s (0x42 ∷ []) 0x82 0
 unfolding wroteIn written draw stream step parameters obey print printByte storeCell advance moveCursorRight modeOf storedByte storedSymbol storedCapital storedHigh inRange
 wrote-200 s = refl
 
--- the number and the count of each answer to a client
+-- the number, the count and the marks of each answer to a client
 outline : Answer → List ℕ
-outline a = a .number ∷ a .count ∷ []
+outline a = a .number ∷ a .count ∷ a .marks ∷ []
 
 answered : ℕ → List (List ℕ)
 answered n = map outline (answersTo n calls (serveAll serve pair blankScreen calls .answers))
 
-answered-7 : answered 7 ≡ ((0 ∷ 1 ∷ []) ∷ (0 ∷ 6 ∷ []) ∷ (10 ∷ 0 ∷ []) ∷ [])
-unfolding wroteIn pair calls outline answered callsOf standalone blockReturned blockRestored blockLength blockFits
+-- both lines of a pane are marked by its opening, and taken once
+answered-7 : answered 7 ≡ ((0 ∷ 1 ∷ 0 ∷ []) ∷ (0 ∷ 6 ∷ 0 ∷ []) ∷ (10 ∷ 0 ∷ 0 ∷ []) ∷ (0 ∷ 2 ∷ 3 ∷ []) ∷ (0 ∷ 0 ∷ 0 ∷ []) ∷ [])
+unfolding wroteIn pair calls outline answered callsOf standalone blockReturned blockRestored marksTaken blockLength blockFits marked lineCount countBelow bit
 answered-7 = ap (map outline) (instance-isolated .answers 0 left-open) ∙ rw (wrote-7 blankScreen)
 
-answered-200 : answered 200 ≡ ((0 ∷ 0 ∷ []) ∷ (9 ∷ 0 ∷ []) ∷ (0 ∷ 0 ∷ []) ∷ [])
-unfolding wroteIn pair calls outline answered callsOf standalone blockReturned blockRestored blockLength blockFits
+answered-200 : answered 200 ≡ ((0 ∷ 0 ∷ 0 ∷ []) ∷ (9 ∷ 0 ∷ 0 ∷ []) ∷ (0 ∷ 0 ∷ 0 ∷ []) ∷ (0 ∷ 2 ∷ 3 ∷ []) ∷ [])
+unfolding wroteIn pair calls outline answered callsOf standalone blockReturned blockRestored marksTaken blockLength blockFits marked lineCount countBelow bit
 answered-200 = ap (map outline) (instance-isolated .answers 1 right-open) ∙ rw (wrote-200 blankScreen)
 
 none-9 : Closed pair 9
@@ -170,21 +182,21 @@ none-9 i o e = not-both (decides-client pair 9 .passes (i, o, e)) refl
 pub none-0 : (m : Multiplexer) → Closed m 0
 none-0 m i o e = o .1 e
 
-answered-9 : answered 9 ≡ ((8 ∷ 0 ∷ []) ∷ [])
+answered-9 : answered 9 ≡ ((8 ∷ 0 ∷ 0 ∷ []) ∷ (8 ∷ 0 ∷ 0 ∷ []) ∷ [])
 unfolding calls outline answered callsOf
 answered-9 = ap (map outline) (instance-isolated .answers-8 9 none-9)
 
-answered-0 : answered 0 ≡ ((8 ∷ 0 ∷ []) ∷ [])
+answered-0 : answered 0 ≡ ((8 ∷ 0 ∷ 0 ∷ []) ∷ [])
 unfolding calls outline answered callsOf
 answered-0 = ap (map outline) (instance-isolated .answers-8 0 (none-0 pair))
 
 -- the first cell of the left pane is as written, and that of the right one as restored
 first-cell : getD (serveAll serve pair blankScreen calls .screen) 0 0 ≡ 0x81
-unfolding wroteIn pair calls callsOf standalone blockReturned blockRestored blockLength blockFits editedCell inside vacated
+unfolding wroteIn pair calls callsOf standalone blockReturned blockRestored marksTaken blockLength blockFits editedCell inside vacated
 first-cell = instance-isolated .cells 0 left-open 0 (omega arith) ∙ rw (wrote-7 blankScreen) (edited-at (rectOf 0 0 0 0) Clear 0x81 blankScreen 0 (omega arith))
 
 second-cell : getD (serveAll serve pair blankScreen calls .screen) 2 0 ≡ 10
-unfolding wroteIn pair calls callsOf standalone blockReturned blockRestored blockLength blockFits blockPlace
+unfolding wroteIn pair calls callsOf standalone blockReturned blockRestored marksTaken blockLength blockFits blockPlace
 second-cell =
     instance-isolated .cells 1 right-open 2 (omega arith)
     ∙ rw (wrote-200 blankScreen) (restored-inside rightPane (2 ∷ 2 ∷ 10 ∷ 11 ∷ 12 ∷ 13 ∷ []) _ 2 (omega arith) (omega arith))

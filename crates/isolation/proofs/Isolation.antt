@@ -18,8 +18,7 @@ use Rattle.slots.specs.State.{noSlot, slotAt, pane, Open, Closed}
 use Rattle.slots.specs.Valid.{validMultiplexer, ValidMultiplexer}
 use Rattle.slots.proofs.Validity.{decides-multiplexer}
 use Rattle.slots.proofs.Slots.{client?}
-use Rattle.multiplexer.specs.Calls.{MultiplexerReply}
-use Rattle.client_calls.specs.Serve.{Call, Server, serve}
+use Rattle.client_calls.specs.Serve.{CallReply, Call, Server, serve}
 use Rattle.isolation.specs.Isolation.{answerFrom, serveAll, callsOf, answersTo, notOpen, Isolated, Isolation}
 use Rattle.isolation.proofs.Following.{Follows, follows}
 use Rattle.client_calls.proofs.Serving.{SameLabels, turned-away, frame}
@@ -92,7 +91,7 @@ each-isolated m s cs valid l =
           let q = stays before m s v l in
           let end = serveAll serve m s before in
           let t = turned-away (end .multiplexer) (end .screen) c (q .valid) (q .len) (closed-same (end .multiplexer) m (q .labels) (c .client) h) in
-          (more before m s c .multiplexer ∙ ap (λ (r : MultiplexerReply). r .state) t, more before m s c .screen ∙ ap (λ (r : MultiplexerReply). r .screen) t);
+          (more before m s c .multiplexer ∙ ap (λ (r : CallReply Multiplexer). r .state) t, more before m s c .screen ∙ ap (λ (r : CallReply Multiplexer). r .screen) t);
       outside = k .outside;
       free = λ i z. k .free i (z .1);
       still-valid = decides-multiplexer _ .passes (k .valid);
@@ -111,7 +110,7 @@ first-below P try (suc n) =
     (try n)
 
 -- a cell lies in some open pane, or in none
-pane? : (m : Multiplexer) (k : ℕ) → ((i : ℕ) × Open m i × Inside (pane m i) k) ⊎ ((i : ℕ) → Open m i → Inside (pane m i) k → ⊥)
+pub pane? : (m : Multiplexer) (k : ℕ) → ((i : ℕ) × Open m i × Inside (pane m i) k) ⊎ ((i : ℕ) → Open m i → Inside (pane m i) k → ⊥)
 pane? m k =
     ⊎-elim (λ p. inl (p .0, (p .1, p .2 .0), p .2 .1)) (λ none. inr (λ i o x. none i (o .0) (o .1, x)))
     (first-below (λ i. (slotAt m i .client ≡ 0 → ⊥) × Inside (pane m i) k)
@@ -161,7 +160,7 @@ isolation = record {
 }
 
 -- no other server meets it: on a valid multiplexer and 1,920 cells it does what `serve` does
-pub record Serves (r q : MultiplexerReply) : Type 0 where
+pub record Serves (r q : CallReply Multiplexer) : Type 0 where
   pub state : r .state ≡ q .state
   pub screen : r .screen ≡ q .screen
   pub answer : answerFrom r ≡ answerFrom q

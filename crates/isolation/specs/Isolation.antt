@@ -7,25 +7,23 @@ use lib.Dec.{eqb}
 use lib.ListN.{length, getD}
 use Rattle.rectangle.specs.Cells.{Inside}
 use Rattle.rectangle.specs.Local.{Agree}
+use Rattle.marks.specs.Marks.{noMarks}
 use Rattle.port.specs.declared.Port.{Port}
-use Rattle.reply.specs.declared.Status.{Status}
 use Rattle.reply.specs.Numbers.{statusNumber}
-use Rattle.reply.specs.Reply.{Reply}
-use Rattle.calls.specs.Calls.{PortReply}
 use Rattle.slots.specs.declared.Multiplexer.{Multiplexer}
 use Rattle.slots.specs.State.{slotAt, pane, Open, Free, Closed}
 use Rattle.slots.specs.Valid.{validMultiplexer}
-use Rattle.multiplexer.specs.Calls.{MultiplexerReply}
-use Rattle.client_calls.specs.Serve.{Kind, lentBlock, callOnPort, Call, Server}
+use Rattle.client_calls.specs.Serve.{CallReply, Kind, lentBlock, callOnPort, Call, Server}
 
--- 'a call's answer is all that it hands back besides wall and screen: number, count and its lent block's bytes'
+-- 'a call's answer is all that it hands back besides wall and screen: number, count and its lent block's bytes'; and of a taking the marks
 pub record Answer : Type 0 where
   pub number : ℕ
   pub count : ℕ
+  pub marks : ℕ
   pub block : List ℕ
 
-abbrev pub answerFrom : {State : Type 0} → Reply Status State ℕ → Answer
-answerFrom r = record { number = statusNumber (r .status); count = r .result; block = r .block }
+abbrev pub answerFrom : {State : Type 0} → CallReply State → Answer
+answerFrom r = record { number = statusNumber (r .status); count = r .result .count; marks = r .result .marks; block = r .block }
 
 -- ---- the multiplexer, fed a list of calls
 pub record Served : Type 0 where
@@ -37,7 +35,7 @@ pub record Served : Type 0 where
 unfoldable pub serveAll : Server → Multiplexer → List ℕ → List Call → Served
 serveAll f m s [] = record { multiplexer = m; screen = s; answers = [] }
 serveAll f m s (c ∷ cs) =
-    let r : MultiplexerReply = f m s c in
+    let r : CallReply Multiplexer = f m s c in
     let rest : Served = serveAll f (r .state) (r .screen) cs in
     record { multiplexer = rest .multiplexer; screen = rest .screen; answers = answerFrom r ∷ rest .answers }
 
@@ -50,7 +48,7 @@ pub record Standalone : Type 0 where
 unfoldable pub standalone : Port → List ℕ → List Kind → Standalone
 standalone p s [] = record { port = p; screen = s; answers = [] }
 standalone p s (k ∷ ks) =
-    let r : PortReply = callOnPort k p s in
+    let r : CallReply Port = callOnPort k p s in
     let rest : Standalone = standalone (r .state) (r .screen) ks in
     record { port = rest .port; screen = rest .screen; answers = answerFrom r ∷ rest .answers }
 
@@ -66,9 +64,9 @@ answersTo n [] xs = []
 answersTo n (c ∷ cs) [] = []
 answersTo n (c ∷ cs) (a ∷ xs) = cond (eqb (c .client) n) (a ∷ answersTo n cs xs) (answersTo n cs xs)
 
--- '8, count 0, the block as it came'
+-- '8, count 0, the block as it came', and no marks
 abbrev pub notOpen : Kind → Answer
-notOpen k = record { number = 8; count = 0; block = lentBlock k }
+notOpen k = record { number = 8; count = 0; marks = noMarks; block = lentBlock k }
 
 -- slot i's standalone console: 'at first that seat's port and the starting screen', and 'fed the calls with that seat's number'
 abbrev pub consoleOf : Multiplexer → List ℕ → List Call → ℕ → Standalone
@@ -103,7 +101,7 @@ pub record SameEnd (f : Server) (m : Multiplexer) (s : List ℕ) (cs ds : List C
   pub screen : serveAll f m s cs .screen ≡ serveAll f m s ds .screen
   pub answers : (n : ℕ) → answersTo n cs (serveAll f m s cs .answers) ≡ answersTo n ds (serveAll f m s ds .answers)
 
--- demand 3: 'any sound wall, any screen of 1,920 cells and any list of writes, block returns and block restores by bench number, refused ones included'
+-- demand 3: 'any sound wall, any screen of 1,920 cells and any list of writes, block returns and block restores by bench number, refused ones included'; request 02: 'taking them joins demand 3'
 pub record Isolation (f : Server) : Type 0 where
   pub isolated : (m : Multiplexer) (s : List ℕ) (cs : List Call) → validMultiplexer m ≡ true → length s ≡ 1920 → Isolated f m s cs
   -- 'any two such lists from the same start that hold, for each number, the same calls in the same order'

@@ -1,4 +1,4 @@
--- Paper 01, 'What comes back': the calls by client. 'Open: 1 to 7. Close: 2, 8. Write: 1, 2, 8. Return: 1, 2, 8, 9. Restore: 1, 2, 8, 10.' Assumes nothing.
+-- Paper 01, 'What comes back': the calls by client. 'Open: 1 to 7. Close: 2, 8. Write: 1, 2, 8. Return: 1, 2, 8, 9. Restore: 1, 2, 8, 10.' Request 02, of a taking: '2, 8'. Assumes nothing.
 use Prim.Native.Nat.{ℕ}
 use mathlib.Core.List.{List, []}
 use lib.ListN.{length}
@@ -10,9 +10,11 @@ use Rattle.reply.specs.declared.Status.{Status}
 use Rattle.reply.specs.declared.Status.the-variants.{Done}
 use Rattle.reply.specs.Reply.{Reply, refusalWith}
 use Rattle.calls.specs.Calls.{PortCall, written, blockReturned, blockRestored}
+use Rattle.calls.specs.Taking.{Taken, noneTaken, marksTaken}
 use Rattle.slots.specs.declared.Multiplexer.{Multiplexer}
 use Rattle.slots.specs.State.{freeSlot, slotAt, withSlot, withPort, freshSlot}
 use Rattle.multiplexer.specs.declared.Answer.{Answer}
+use Rattle.multiplexer.specs.declared.Taking.{Taking}
 use Rattle.multiplexer.specs.declared.Located.{Located}
 use Rattle.multiplexer.specs.declared.Located.the-variants.{Refused, At}
 use Rattle.multiplexer.specs.Located.{clientSlot, claimSlot, locatedOn}
@@ -44,7 +46,11 @@ returnCall m s n block = onClient blockReturned (locatedOn (length s) (clientSlo
 abbrev pub restoreCall : Multiplexer → List ℕ → ℕ → List ℕ → MultiplexerReply
 restoreCall m s n block = onClient blockRestored (locatedOn (length s) (clientSlot m n)) m s block
 
--- what an opening leaves at its slot: it 'takes the lowest free seat, starts a fresh port and blanks the pane'. A blank is $A0. No block is lent.
+-- a taking takes none; 'refusals, with no marks and 0'
+abbrev pub takeCall : Multiplexer → ℕ → Reply Status Multiplexer Taken
+takeCall m n = onSlot noneTaken (clientSlot m n) m [] [] (λ i. relayed m i (marksTaken (slotAt m i .port) [] []))
+
+-- what an opening leaves at its slot: it 'takes the lowest free seat, starts a fresh port and blanks the pane', and its lines are marked. A blank is $A0. No block is lent.
 abbrev pub openedAt : Multiplexer → List ℕ → ℕ → Rect → ℕ → MultiplexerReply
 openedAt m s n pane i = record { status = Done; state = withSlot m i (freshSlot n pane); result = 0; screen = edited pane Clear 0xa0 s; block = [] }
 
@@ -60,3 +66,6 @@ closeCall m n = onSlot 0 (clientSlot m n) m [] [] (closedAt m)
 
 abbrev pub answerOf : Status → Multiplexer → ℕ → Answer
 answerOf status m count = record { status = status; multiplexer = m; count = count }
+
+abbrev pub takingOf : Status → Multiplexer → Taken → Taking
+takingOf status m taken = record { status = status; multiplexer = m; marks = taken .marks; count = taken .count }

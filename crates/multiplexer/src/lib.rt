@@ -3,13 +3,13 @@
 // A call is judged here and made in `calls`, on the port of the client's slot.
 use calls::Verdict;
 use calls::screen_verdict;
-use port::state::fresh_port;
 use port::state::zero_port;
 use rectangle::Rect;
 use rectangle::legal;
 use reply::Status;
 use screen::clear;
 use slots::Multiplexer;
+use slots::fresh_slot;
 use slots::lookup::has_client;
 use slots::lookup::pane_shared;
 use slots::lookup::slot_of;
@@ -24,7 +24,8 @@ ghost use mathlib.Core.List.{[]};
 ghost use Rattle.reply.specs.Reply.{Replies};
 ghost use Rattle.slots.specs.State.{freshMultiplexer, withPort};
 ghost use Rattle.multiplexer.specs.Located.{multiplexerVerdict, claimVerdict, freeSlotFor, openSlot, verdictFirst, clientSlot, claimSlot, locatedOn};
-ghost use Rattle.multiplexer.specs.Calls.{writeCall, returnCall, restoreCall, openCall, closeCall, answerOf};
+ghost use Rattle.calls.specs.Taking.{takenOf};
+ghost use Rattle.multiplexer.specs.Calls.{writeCall, returnCall, restoreCall, takeCall, openCall, closeCall, answerOf, takingOf};
 
 // What a call hands back: the status, the multiplexer, and the count of bells or of bytes.
 pub struct Answer {
@@ -39,6 +40,25 @@ fn answer_of(status: Status, multiplexer: Multiplexer, count: usize) -> Answer
     Answer {
         status,
         multiplexer,
+        count,
+    }
+}
+
+// What a taking hands back: the status, the multiplexer, the marks, and how many lines are marked.
+pub struct Taking {
+    pub status: Status,
+    pub multiplexer: Multiplexer,
+    pub marks: u32,
+    pub count: usize,
+}
+
+fn taking_of(status: Status, multiplexer: Multiplexer, marks: u32, count: usize) -> Taking
+    ensures { λ r. ⌜ r ≡ takingOf status multiplexer (takenOf marks count) ⌝ }
+{
+    Taking {
+        status,
+        multiplexer,
+        marks,
         count,
     }
 }
@@ -171,7 +191,7 @@ pub fn return_block(m: Multiplexer, screen: &[u8], client: u8, block: &mut [u8])
     }
 }
 
-// Puts a block's text into the client's viewport.
+// Puts a block's text into the client's viewport, whose lines are marked.
 pub fn restore_block(m: Multiplexer, screen: &mut [u8], client: u8, block: &[u8]) -> Answer
     ensures { λ r. ⌜ Replies (restoreCall m (now (screen .entry)) client (now (block .entry))) (r .status) (r .multiplexer) (r .count) (now (screen .exit)) (now (block .entry)) ⌝ }
 {
@@ -182,7 +202,28 @@ pub fn restore_block(m: Multiplexer, screen: &mut [u8], client: u8, block: &[u8]
     }
 }
 
-// Takes the lowest free slot, starts a fresh port there and blanks the pane.
+// What a taking on the port of slot i answered.
+fn relay_taking(m: Multiplexer, i: usize, taking: calls::Taking) -> Taking
+    requires { ⌜ i < 4 ⌝ }
+    ensures { λ r. ⌜ r ≡ takingOf (taking .status) (withPort m i (taking .port)) (takenOf (taking .marks) (taking .count)) ⌝ }
+{
+    let status = taking.status;
+    let port = taking.port;
+    taking_of(status, with_port(m, i, port), taking.marks, taking.count)
+}
+
+// Hands the marks of the client's port out, with their number, and clears them. No screen is lent.
+pub fn take_marks(m: Multiplexer, client: u8) -> Taking
+    ensures { λ r. ⌜ Replies (takeCall m client) (r .status) (r .multiplexer) (takenOf (r .marks) (r .count)) [] [] ⌝ }
+{
+    let located = client_slot(m, client);
+    match located {
+        Located::Refused(status) => taking_of(status, m, 0, 0),
+        Located::At(i) => relay_taking(m, i, calls::take_marks(port_at(m, i))),
+    }
+}
+
+// Takes the lowest free slot, starts a fresh port there and blanks the pane, whose lines are marked.
 pub fn open(m: Multiplexer, screen: &mut [u8], client: u8, pane: Rect) -> Answer
     ensures { λ r. ⌜ Replies (openCall m (now (screen .entry)) client pane) (r .status) (r .multiplexer) (r .count) (now (screen .exit)) [] ⌝ }
 {
@@ -191,16 +232,12 @@ pub fn open(m: Multiplexer, screen: &mut [u8], client: u8, pane: Rect) -> Answer
         Located::Refused(status) => answer_of(status, m, 0),
         Located::At(i) => {
             clear(screen, pane, 0xA0);
-            answer_of(
-                Status::Done,
-                with_slot(m, i, new_slot(client, fresh_port(pane))),
-                0,
-            )
+            answer_of(Status::Done, with_slot(m, i, fresh_slot(client, pane)), 0)
         }
     }
 }
 
-// The slot's every field becomes 0 or false; no cell changes.
+// The slot's every field becomes 0 or false, its marks too; no cell changes.
 pub fn close(m: Multiplexer, client: u8) -> Answer
     ensures { λ r. ⌜ Replies (closeCall m client) (r .status) (r .multiplexer) (r .count) [] [] ⌝ }
 {

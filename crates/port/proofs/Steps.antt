@@ -10,30 +10,46 @@ use lib.ListN.{getD, set}
 use lib.Seq.{getD-set-other}
 use borrow.Author.Tests.{ltb-true}
 use Rattle.laws.proofs.Tests.{by-test}
+use Rattle.rectangle.specs.declared.Edit.{Edit}
 use Rattle.rectangle.specs.declared.Motion.the-variants.{Up, Down}
+use Rattle.rectangle.specs.Local.{AllWithin}
+use Rattle.rectangle.proofs.Local.{all-widen}
+use Rattle.marks.specs.Marks.{markedBy}
+use Rattle.marks.proofs.Marking.{marked-within}
 use Rattle.charset.specs.Stored.{isPrinting}
 use Rattle.port.specs.declared.Port.{Port}
-use Rattle.port.specs.State.{noParameters, withSaved, defaultView}
+use Rattle.port.specs.State.{noParameters, withView, withSaved, defaultView}
 use Rattle.port.specs.Valid.{parameters, usedOrZero, unusedZero, countFits, validWait, ValidView, ValidWait, ValidPort}
 use Rattle.port.specs.Effect.{Effect}
 use Rattle.port.specs.Step.{becomesPort, onView, pushAndReset, pop, waitFor, control, obey, perform, parameter, step}
 use Rattle.port.specs.Keeps.{KeepsView, KeepsPort}
-use Rattle.port.proofs.Validity.{no-parameters, view-valid, saved-valid, wait-valid, default-valid, none-waits, decides-wait}
+use Rattle.port.proofs.Validity.{no-parameters, view-valid, saved-valid, wait-valid, marks-valid, default-valid, none-waits, decides-wait}
 use Rattle.port.proofs.Views.{keeps-right, keeps-print, keeps-line-start, keeps-line-end, keeps-clear-line, keeps-clear-port, keeps-port-start, keeps-port-end, keeps-horizontal-scroll, keeps-vertical, keeps-horizontal, keeps-goto, keeps-backspace, keeps-line-feed, keeps-return, keeps-modes, keeps-flags, keeps-home-cursor, keeps-moves, keeps-up, keeps-dle, size-valid}
 
 module _ (p : Port) (h : ValidPort p) where
+  in-home : (es : List Edit) → AllWithin (p .view .viewport) es → AllWithin (p .home) es
+  in-home = all-widen (p .view .viewport) (p .home) (omega arith) (omega arith) (omega arith) (omega arith)
+
   -- what keeps the view keeps the port
   keeps-view : (e : Effect) → KeepsView (p .home) (p .view) e → KeepsPort p (onView p e)
-  keeps-view e k = record { valid = view-valid p h (e .view) (k .view); home = refl; edits = k .edits }
+  keeps-view e k = record {
+    valid =
+        marks-valid (withView p (e .view)) (view-valid p h (e .view) (k .view)) (markedBy (p .marks) (e .edits))
+        (marked-within (p .marks) (p .home) (e .edits) (in-home (e .edits) (k .edits)) (h .marks));
+    home = refl;
+    edits = k .edits;
+    marks = refl;
+  }
 
   keeps-idle : KeepsPort p (becomesPort p)
-  keeps-idle = record { valid = h; home = refl; edits = tt }
+  keeps-idle = record { valid = h; home = refl; edits = tt; marks = refl }
 
   keeps-push : KeepsPort p (becomesPort (pushAndReset p))
   keeps-push = record {
     valid = view-valid (withSaved p true (p .view)) (saved-valid p h (p .view) (h .view)) (defaultView p) (default-valid p (h .home));
     home = refl;
     edits = tt;
+    marks = refl;
   }
 
   keeps-pop : KeepsPort p (becomesPort (pop p))
@@ -42,17 +58,18 @@ module _ (p : Port) (h : ValidPort p) where
     valid = view-valid p h _ (by-test (ValidView (p .home)) (p .hassaved) (h .saved) (λ _. default-valid p (h .home)));
     home = refl;
     edits = tt;
+    marks = refl;
   }
 
   -- a command that waits with nothing gathered
   keeps-wait : (code : ℕ) → ValidWait code noParameters 0 → KeepsPort p (becomesPort (waitFor p code))
-  keeps-wait code k = record { valid = wait-valid p h code noParameters 0 k; home = refl; edits = tt }
+  keeps-wait code k = record { valid = wait-valid p h code noParameters 0 k; home = refl; edits = tt; marks = refl }
 
 -- a command with its last parameter: none waits any more
 keeps-performed : (p : Port) → ValidPort p → (e : Effect) → KeepsView (p .home) (p .view) e → KeepsPort p (onView (waitFor p 0) e)
 keeps-performed p h e k =
     let m = keeps-view (waitFor p 0) (wait-valid p h 0 noParameters 0 none-waits) e k in
-    record { valid = m .valid; home = refl; edits = m .edits }
+    record { valid = m .valid; home = refl; edits = m .edits; marks = refl }
 
 keeps-control : (p : Port) → ValidPort p → (code : ℕ) → KeepsPort p (control p code)
 unfolding control parameters validWait countFits unusedZero usedOrZero
@@ -64,7 +81,7 @@ keeps-control p h code =
     by-test (KeepsPort p) (eqb code 0x04) (λ _. keeps-pop p h) λ _.
     by-test (KeepsPort p) (eqb code 0x05) (λ _. keeps-wait p h 0x05 (decides-wait 0x05 noParameters 0 .holds refl)) λ _.
     by-test (KeepsPort p) (eqb code 0x06) (λ _. keeps-wait p h 0x06 (decides-wait 0x06 noParameters 0 .holds refl)) λ _.
-    by-test (KeepsPort p) (eqb code 0x07) (λ _. record { valid = h; home = refl; edits = tt }) λ _.
+    by-test (KeepsPort p) (eqb code 0x07) (λ _. record { valid = h; home = refl; edits = tt; marks = refl }) λ _.
     by-test (KeepsPort p) (eqb code 0x08) (λ _. keeps-view p h _ (keeps-backspace (p .home) (p .view) (h .view))) λ _.
     by-test (KeepsPort p) (eqb code 0x09) (λ _. keeps-idle p h) λ _.
     by-test (KeepsPort p) (eqb code 0x0a) (λ _. keeps-view p h _ (keeps-line-feed (p .home) (p .view) (h .view))) λ _.
@@ -99,7 +116,7 @@ unfolding perform
 keeps-perform p h code b =
     let first : ℕ = getD (p .gathered) 0 0 in
     by-test (KeepsPort p) (eqb code 0x02)
-    (λ _. record { valid = view-valid (waitFor p 0) (wait-valid p h 0 noParameters 0 none-waits) _ (size-valid (p .home) (p .view) (h .view) (h .home) first (getD (p .gathered) 1 0) (getD (p .gathered) 2 0) b); home = refl; edits = tt }) λ _.
+    (λ _. record { valid = view-valid (waitFor p 0) (wait-valid p h 0 noParameters 0 none-waits) _ (size-valid (p .home) (p .view) (h .view) (h .home) first (getD (p .gathered) 1 0) (getD (p .gathered) 2 0) b); home = refl; edits = tt; marks = refl }) λ _.
     by-test (KeepsPort p) (eqb code 0x05) (λ _. keeps-performed p h _ (keeps-horizontal-scroll (p .home) (p .view) (h .view) b)) λ _.
     by-test (KeepsPort p) (eqb code 0x06) (λ _. keeps-performed p h _ (keeps-vertical (p .home) (p .view) (h .view) b)) λ _.
     by-test (KeepsPort p) (eqb code 0x10) (λ _. keeps-performed p h _ (keeps-dle (p .home) (p .view) (h .view) b)) λ _.
@@ -124,6 +141,7 @@ keeps-parameter p h b some =
       valid = wait-valid p h (p .waiting) (set (p .gathered) (p .count) b) (p .count + 1) (gathers _ _ _ b (h .wait) some (ltb-true _ _ t));
       home = refl;
       edits = tt;
+      marks = refl;
     })
     (λ _. keeps-perform p h (p .waiting) b)
 

@@ -1,6 +1,7 @@
 -- A stream may be cut anywhere, and what a byte keeps a stream keeps. Assumes nothing.
 use Prim.Native.Nat.{ℕ, _+_}
 use mathlib.Core.Path.{_≡_, refl, sym, ap, _∙_, subst}
+use mathlib.Core.Bool.{_||_}
 use mathlib.Core.List.{List, [], _∷_, _++_, append-assoc}
 use native.Mathlib.Nat.{add-assoc, zero-add}
 use native.Mathlib.Omega.{arith}
@@ -8,6 +9,8 @@ use Rattle.rectangle.specs.declared.Rect.{Rect}
 use Rattle.rectangle.specs.Edit.{draw}
 use Rattle.rectangle.specs.Local.{Local, AllWithin}
 use Rattle.rectangle.proofs.Local.{all-append, all-widen, draw-append, draw-local}
+use Rattle.marks.specs.Marks.{isMarked, storedTo, markedBy}
+use Rattle.marks.proofs.Marking.{marked-append, marked-by}
 use Rattle.port.specs.declared.Port.{Port}
 use Rattle.port.specs.Valid.{ValidPort}
 use Rattle.port.specs.Step.{Outcome, step}
@@ -36,11 +39,11 @@ cells-cut p a b s = ap (λ (m : Outcome). draw (m .edits) s) (stream-cut p a b) 
 pub step-home : (p : Port) → ValidPort p → (b : ℕ) → KeepsHome p (step p b)
 step-home p h b =
     let k = keeps-step p h b in
-    record { valid = k .valid; home = k .home; edits = all-widen (p .view .viewport) (p .home) (omega arith) (omega arith) (omega arith) (omega arith) (step p b .edits) (k .edits) }
+    record { valid = k .valid; home = k .home; edits = all-widen (p .view .viewport) (p .home) (omega arith) (omega arith) (omega arith) (omega arith) (step p b .edits) (k .edits); marks = k .marks }
 
 pub keeps-stream : (p : Port) → ValidPort p → (bs : List ℕ) → KeepsHome p (stream p bs)
 unfolding stream
-keeps-stream p h [] = record { valid = h; home = refl; edits = tt }
+keeps-stream p h [] = record { valid = h; home = refl; edits = tt; marks = refl }
 keeps-stream p h (b ∷ bs) =
     let k = step-home p h b in
     let rest = keeps-stream (step p b .port) (k .valid) bs in
@@ -48,7 +51,14 @@ keeps-stream p h (b ∷ bs) =
       valid = rest .valid;
       home = rest .home ∙ k .home;
       edits = all-append (p .home) (step p b .edits) (stream (step p b .port) bs .edits) (k .edits) (subst (λ (r : Rect). AllWithin r (stream (step p b .port) bs .edits)) (k .home) (rest .edits));
+      marks =
+          rest .marks ∙ ap (λ (n : ℕ). markedBy n (stream (step p b .port) bs .edits)) (k .marks)
+          ∙ sym (marked-append (p .marks) (step p b .edits) (stream (step p b .port) bs .edits));
     }
+
+-- so a line is marked after a stream exactly if an edit of the stream stored to it, or if it was marked before
+pub stream-marks : (p : Port) → ValidPort p → (bs : List ℕ) (line : ℕ) → isMarked (stream p bs .port .marks) line ≡ (isMarked (p .marks) line || storedTo (stream p bs .edits) line)
+stream-marks p h bs line = ap (λ (n : ℕ). isMarked n line) (keeps-stream p h bs .marks) ∙ marked-by (p .marks) (stream p bs .edits) line
 
 -- so a byte changes no cell outside the viewport, and a stream none outside home; what they leave there depends only on what was there
 pub step-local : (p : Port) → ValidPort p → (b : ℕ) → Local (p .view .viewport) (draw (step p b .edits))

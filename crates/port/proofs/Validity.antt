@@ -12,10 +12,12 @@ use Rattle.laws.proofs.Tests.{tested, not-both, Decides, decides-lt, decides-le
 use Rattle.rectangle.specs.declared.Rect.{Rect}
 use Rattle.rectangle.specs.Rectangles.{OnScreen, Legal}
 use Rattle.rectangle.proofs.Rectangles.{decides-legal, legal-on-screen, decides-within, decides-zero-rect}
+use Rattle.marks.specs.Marks.{WithinLines}
+use Rattle.marks.proofs.Marking.{decides-within-lines, none-within}
 use Rattle.port.specs.declared.Flags.{Flags}
 use Rattle.port.specs.declared.View.{View}
 use Rattle.port.specs.declared.Port.{Port}
-use Rattle.port.specs.State.{allFlags, zeroView, noParameters, zeroPort, cursorAt, withFlags, withModes, withViewport, withView, withSaved, withWait, defaultView, freshPort}
+use Rattle.port.specs.State.{allFlags, zeroView, noParameters, zeroPort, cursorAt, withFlags, withModes, withViewport, withView, withSaved, withWait, withMarks, defaultView, freshPort}
 use Rattle.port.specs.Valid.{cursorInside, validView, ValidView, isZeroFlags, isZeroView, validSaved, parameters, usedOrZero, unusedZero, countFits, validWait, ValidWait, validPort, ValidPort, isZeroPort, ZeroPort}
 
 pub decides-view : (home : Rect) (v : View) → Decides (validView home v) (ValidView home v)
@@ -94,9 +96,10 @@ unfolding validPort Saved
 decides-valid p =
     decides-as
     (decides-both (decides-both (decides-legal (p .home)) (decides-view (p .home) (p .view)))
-    (decides-both (decides-saved (p .home) (p .hassaved) (p .saved)) (decides-wait (p .waiting) (p .gathered) (p .count))))
-    (λ k. record { home = k .0 .0; view = k .0 .1; saved = k .1 .0 .0; unsaved = k .1 .0 .1; wait = k .1 .1 })
-    (λ h. ((h .home, h .view), ((h .saved, h .unsaved), h .wait)))
+    (decides-both (decides-saved (p .home) (p .hassaved) (p .saved))
+    (decides-both (decides-wait (p .waiting) (p .gathered) (p .count)) (decides-within-lines (p .marks) (p .home)))))
+    (λ k. record { home = k .0 .0; view = k .0 .1; saved = k .1 .0 .0; unsaved = k .1 .0 .1; wait = k .1 .1 .0; marks = k .1 .1 .1 .1 })
+    (λ h. ((h .home, h .view), ((h .saved, h .unsaved), (h .wait, (h .home, h .marks)))))
 
 -- the viewport of a valid port lies on the screen
 pub viewport-on-screen : (p : Port) → ValidPort p → OnScreen (p .view .viewport)
@@ -105,13 +108,16 @@ viewport-on-screen p h = legal-on-screen (p .view .viewport) (h .view .legal)
 -- ---- what keeps a port valid: another part of its state that is valid by itself
 module _ (p : Port) (h : ValidPort p) where
   pub view-valid : (v : View) → ValidView (p .home) v → ValidPort (withView p v)
-  view-valid v k = record { home = h .home; view = k; saved = h .saved; unsaved = h .unsaved; wait = h .wait }
+  view-valid v k = record { home = h .home; view = k; saved = h .saved; unsaved = h .unsaved; wait = h .wait; marks = h .marks }
 
   pub saved-valid : (v : View) → ValidView (p .home) v → ValidPort (withSaved p true v)
-  saved-valid v k = record { home = h .home; view = h .view; saved = λ _. k; unsaved = λ e. absurd (not-both refl e); wait = h .wait }
+  saved-valid v k = record { home = h .home; view = h .view; saved = λ _. k; unsaved = λ e. absurd (not-both refl e); wait = h .wait; marks = h .marks }
 
   pub wait-valid : (code : ℕ) (gathered : List ℕ) (count : ℕ) → ValidWait code gathered count → ValidPort (withWait p code gathered count)
-  wait-valid code gathered count k = record { home = h .home; view = h .view; saved = h .saved; unsaved = h .unsaved; wait = k }
+  wait-valid code gathered count k = record { home = h .home; view = h .view; saved = h .saved; unsaved = h .unsaved; wait = k; marks = h .marks }
+
+  pub marks-valid : (marks : ℕ) → WithinLines marks (p .home) → ValidPort (withMarks p marks)
+  marks-valid marks k = record { home = h .home; view = h .view; saved = h .saved; unsaved = h .unsaved; wait = h .wait; marks = k }
 
 -- ---- the default view of a legal home is valid, and so is the fresh port
 pub default-valid : (p : Port) → Legal (p .home) → ValidView (p .home) (defaultView p)
@@ -128,6 +134,7 @@ fresh-valid home l = record {
   saved = λ e. absurd (not-both e refl);
   unsaved = λ _. refl;
   wait = none-waits;
+  marks = none-within home;
 }
 
 -- ---- the port of a free slot
@@ -136,7 +143,7 @@ unfolding isZeroPort
 decides-zero-port p =
     decides-as
     (decides-both (decides-both (decides-zero-rect (p .home)) (decides-both (decides-zero-view (p .view)) (decides-zero-view (p .saved))))
-    (decides-both (decides-off (p .hassaved)) (decides-both (decides-eq _ _) (decides-both (decides-unused (p .gathered) 0) (decides-eq _ _)))))
+    (decides-both (decides-off (p .hassaved)) (decides-both (decides-eq _ _) (decides-both (decides-unused (p .gathered) 0) (decides-both (decides-eq _ _) (decides-eq _ _))))))
     (λ k. record {
       home = k .0 .0;
       view = k .0 .1 .0;
@@ -144,9 +151,10 @@ decides-zero-port p =
       unsaved = k .1 .0;
       waiting = k .1 .1 .0;
       gathered = λ i h. k .1 .1 .1 .0 i h (omega arith);
-      count = k .1 .1 .1 .1;
+      count = k .1 .1 .1 .1 .0;
+      marks = k .1 .1 .1 .1 .1;
     })
-    (λ z. ((z .home, (z .view, z .saved)), (z .unsaved, (z .waiting, (λ i h _. z .gathered i h, z .count)))))
+    (λ z. ((z .home, (z .view, z .saved)), (z .unsaved, (z .waiting, (λ i h _. z .gathered i h, (z .count, z .marks))))))
 
 pub zero-port-is-zero : ZeroPort zeroPort
 zero-port-is-zero = record {
@@ -157,6 +165,7 @@ zero-port-is-zero = record {
   waiting = refl;
   gathered = λ i h. none-waits .unused i h (omega arith);
   count = refl;
+  marks = refl;
 }
 
 -- ---- parameters

@@ -4,6 +4,7 @@ use mathlib.Core.Bool.{Bool, true, false}
 use mathlib.Core.List.{List, [], _∷_}
 use Rattle.rectangle.specs.declared.Rect.{Rect}
 use Rattle.rectangle.specs.Rectangles.{rectOf}
+use Rattle.marks.specs.Marks.{noMarks}
 use Rattle.port.specs.declared.Flags.{Flags}
 use Rattle.port.specs.declared.View.{View}
 use Rattle.port.specs.declared.Port.{Port}
@@ -22,7 +23,7 @@ abbrev pub noParameters : List ℕ
 noParameters = 0 ∷ 0 ∷ 0 ∷ 0 ∷ []
 
 abbrev pub zeroPort : Port
-zeroPort = record { home = rectOf 0 0 0 0; view = zeroView; hassaved = false; saved = zeroView; waiting = 0; gathered = noParameters; count = 0 }
+zeroPort = record { home = rectOf 0 0 0 0; view = zeroView; hassaved = false; saved = zeroView; waiting = 0; gathered = noParameters; count = 0; marks = noMarks }
 
 -- ---- a view with one part set
 -- 'a viewport'; where one is set, 'the cursor goes to its top left'
@@ -48,28 +49,37 @@ withModes v inverse mousetext =
 -- 'a home rectangle'
 abbrev pub withHome : Port → Rect → Port
 withHome p home =
-    record { home = home; view = p .view; hassaved = p .hassaved; saved = p .saved; waiting = p .waiting; gathered = p .gathered; count = p .count }
+    record { home = home; view = p .view; hassaved = p .hassaved; saved = p .saved; waiting = p .waiting; gathered = p .gathered; count = p .count; marks = p .marks }
 
 abbrev pub withView : Port → View → Port
 withView p view =
-    record { home = p .home; view = view; hassaved = p .hassaved; saved = p .saved; waiting = p .waiting; gathered = p .gathered; count = p .count }
+    record { home = p .home; view = view; hassaved = p .hassaved; saved = p .saved; waiting = p .waiting; gathered = p .gathered; count = p .count; marks = p .marks }
 
 -- 'at most one saved port': whether there is one, and its view
 abbrev pub withSaved : Port → Bool → View → Port
 withSaved p hassaved saved =
-    record { home = p .home; view = p .view; hassaved = hassaved; saved = saved; waiting = p .waiting; gathered = p .gathered; count = p .count }
+    record { home = p .home; view = p .view; hassaved = hassaved; saved = saved; waiting = p .waiting; gathered = p .gathered; count = p .count; marks = p .marks }
 
 -- 'a command waiting for its parameters with those gathered so far'
 abbrev pub withWait : Port → ℕ → List ℕ → ℕ → Port
 withWait p waiting gathered count =
-    record { home = p .home; view = p .view; hassaved = p .hassaved; saved = p .saved; waiting = waiting; gathered = gathered; count = count }
+    record { home = p .home; view = p .view; hassaved = p .hassaved; saved = p .saved; waiting = waiting; gathered = gathered; count = count; marks = p .marks }
+
+-- request 02: 'keep beside each port a mark for each of the 24 screen lines'
+abbrev pub withMarks : Port → ℕ → Port
+withMarks p marks =
+    record { home = p .home; view = p .view; hassaved = p .hassaved; saved = p .saved; waiting = p .waiting; gathered = p .gathered; count = p .count; marks = marks }
+
+-- the port after drawing: its next view and its marks
+abbrev pub withDrawn : Port → View → ℕ → Port
+withDrawn p view marks = withMarks (withView p view) marks
 
 -- ---- the default and the fresh state
 -- 'default state: viewport = home, cursor top left, all five flags true, normal text, MouseText off'
 abbrev pub defaultView : Port → View
 defaultView p = withModes (withFlags (withViewport zeroView (p .home)) (allFlags true)) false false
 
--- 'a fresh port is in the default state, with nothing saved and nothing waiting'
+-- 'a fresh port is in the default state, with nothing saved and nothing waiting'; 'a fresh plain port has none marked'
 abbrev pub freshPort : Rect → Port
 freshPort home = withView (withHome zeroPort home) (defaultView (withHome zeroPort home))
 

@@ -5,9 +5,10 @@ use mathlib.Core.List.{List, []}
 use lib.Dec.{ltb, eqb}
 use lib.ListN.{getD, set}
 use Rattle.rectangle.specs.declared.Edit.{Edit}
+use Rattle.marks.specs.Marks.{markedBy}
 use Rattle.charset.specs.Stored.{isPrinting}
 use Rattle.port.specs.declared.Port.{Port}
-use Rattle.port.specs.State.{noParameters, withView, withSaved, withWait, defaultView}
+use Rattle.port.specs.State.{noParameters, withView, withSaved, withWait, withDrawn, defaultView}
 use Rattle.port.specs.Valid.{parameters}
 use Rattle.port.specs.Effect.{Effect, becomes}
 use Rattle.port.specs.Codes.{print, setPortSize, clearFromLineStart, clearToLineEnd, clearLine, clearFromPortStart, clearToPortEnd, clearPortAndHome, horizontalScroll, setVertical, setHorizontal, gotoXY, backspace, lineFeed, carriageReturn, setNormal, setInverse, enableMouseText, disableMouseText, homeCursor, dleSpaceExpansion, setCursorMovement, scrollDown, scrollUp, moveCursorRight, moveCursorUp}
@@ -22,9 +23,9 @@ pub record Outcome : Type 0 where
 abbrev pub becomesPort : Port → Outcome
 becomesPort p = record { port = p; edits = []; bells = 0 }
 
--- an effect on the view of a port
+-- an effect on the view of a port: the lines that its edits store to are marked
 abbrev pub onView : Port → Effect → Outcome
-onView p e = record { port = withView p (e .view); edits = e .edits; bells = 0 }
+onView p e = record { port = withDrawn p (e .view) (markedBy (p .marks) (e .edits)); edits = e .edits; bells = 0 }
 
 -- $00, $09, $11, $12: 'nothing'
 abbrev pub idle : Port → Outcome

@@ -8,6 +8,7 @@ use lib.Dec.{ltb, leb, eqb}
 use lib.ListN.{getD}
 use Rattle.rectangle.specs.declared.Rect.{Rect}
 use Rattle.rectangle.specs.Rectangles.{rectOf, Within, Legal, isZeroRect, legal, within}
+use Rattle.marks.specs.Marks.{withinLines, WithinLines}
 use Rattle.port.specs.declared.Flags.{Flags}
 use Rattle.port.specs.declared.View.{View}
 use Rattle.port.specs.declared.Port.{Port}
@@ -78,11 +79,11 @@ pub record ValidWait (code : ℕ) (gathered : List ℕ) (count : ℕ) : Type 0 w
   pub none : code ≡ 0 → count ≡ 0
   pub unused : (i : ℕ) → i < 4 → count ≤ i → getD gathered i 0 ≡ 0
 
--- 'sound'
+-- 'sound'; of the marks, request 02: 'a mark outside home's lines isn't sound'
 unfoldable pub validPort : Port → Bool
 validPort p =
     (legal (p .home) && validView (p .home) (p .view))
-    && (validSaved (p .home) (p .hassaved) (p .saved) && validWait (p .waiting) (p .gathered) (p .count))
+    && (validSaved (p .home) (p .hassaved) (p .saved) && (validWait (p .waiting) (p .gathered) (p .count) && withinLines (p .marks) (p .home)))
 
 pub record ValidPort (p : Port) : Type 0 where
   pub home : Legal (p .home)
@@ -90,12 +91,13 @@ pub record ValidPort (p : Port) : Type 0 where
   pub saved : p .hassaved ≡ true → ValidView (p .home) (p .saved)
   pub unsaved : p .hassaved ≡ false → p .saved ≡ zeroView
   pub wait : ValidWait (p .waiting) (p .gathered) (p .count)
+  pub marks : WithinLines (p .marks) (p .home)
 
 -- of a free seat's port: 'every field of a free seat holds 0 or false'
 unfoldable pub isZeroPort : Port → Bool
 isZeroPort p =
     (isZeroRect (p .home) && (isZeroView (p .view) && isZeroView (p .saved)))
-    && (not (p .hassaved) && (eqb (p .waiting) 0 && (unusedZero (p .gathered) 0 && eqb (p .count) 0)))
+    && (not (p .hassaved) && (eqb (p .waiting) 0 && (unusedZero (p .gathered) 0 && (eqb (p .count) 0 && eqb (p .marks) 0))))
 
 pub record ZeroPort (p : Port) : Type 0 where
   pub home : p .home ≡ rectOf 0 0 0 0
@@ -105,3 +107,4 @@ pub record ZeroPort (p : Port) : Type 0 where
   pub waiting : p .waiting ≡ 0
   pub gathered : (i : ℕ) → i < 4 → getD (p .gathered) i 0 ≡ 0
   pub count : p .count ≡ 0
+  pub marks : p .marks ≡ 0

@@ -24,7 +24,7 @@ pub struct View {
     pub mousetext: bool,
 }
 
-// A port: its home rectangle, its view, at most one saved view, and a command that waits for its parameters.
+// A port: its home rectangle, its view, at most one saved view, a command that waits for its parameters, and the marks of the lines that were stored to.
 // Fields that carry nothing hold 0 or false: saved where hassaved is false, count where waiting is 0, gathered from count on.
 pub struct Port {
     pub home: Rect,
@@ -34,4 +34,5 @@ pub struct Port {
     pub waiting: u8,
     pub gathered: [u8; 4],
     pub count: u8,
+    pub marks: u32,
 }

@@ -53,6 +53,7 @@ pub fn zero_port() -> Port
         waiting: 0,
         gathered: [0; 4],
         count: 0,
+        marks: 0,
     }
 }
 
@@ -131,6 +132,24 @@ pub fn with_wait(p: Port, waiting: u8, gathered: [u8; 4], count: u8) -> Port
     next
 }
 
+pub fn with_marks(p: Port, marks: u32) -> Port
+    ensures { λ r. ⌜ r ≡ rules.withMarks p marks ⌝ }
+{
+    let mut next = p;
+    next.marks = marks;
+    next
+}
+
+// The port after drawing: its next view and its marks.
+pub fn with_drawn(p: Port, view: View, marks: u32) -> Port
+    ensures { λ r. ⌜ r ≡ rules.withDrawn p view marks ⌝ }
+{
+    let mut next = p;
+    next.view = view;
+    next.marks = marks;
+    next
+}
+
 // The viewport is home, the cursor top left, all flags on, normal text, MouseText off.
 pub fn default_view(p: Port) -> View
     ensures { λ r. ⌜ r ≡ rules.defaultView p ⌝ }
@@ -139,7 +158,7 @@ pub fn default_view(p: Port) -> View
     with_modes(with_flags(placed, all_flags(true)), false, false)
 }
 
-// The default state, with nothing saved and nothing waiting.
+// The default state, with nothing saved, nothing waiting and no line marked.
 pub fn fresh_port(home: Rect) -> Port
     ensures { λ r. ⌜ r ≡ rules.freshPort home ⌝ }
 {

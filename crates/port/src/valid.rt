@@ -2,6 +2,7 @@
 use super::Flags;
 use super::Port;
 use super::View;
+use marks::within_lines;
 use rectangle::Rect;
 use rectangle::is_zero_rect;
 use rectangle::legal;
@@ -96,7 +97,8 @@ pub fn valid_port(p: Port) -> bool
 {
     let gathered = p.gathered;
     (legal(p.home) & valid_view(p.home, p.view))
-        & (valid_saved(p.home, p.hassaved, p.saved) & valid_wait(p.waiting, gathered, p.count))
+        & (valid_saved(p.home, p.hassaved, p.saved)
+            & (valid_wait(p.waiting, gathered, p.count) & within_lines(p.marks, p.home)))
 }
 
 // The same, for the one-byte call alone: the compiler inlines a function that has one caller.
@@ -106,7 +108,8 @@ pub fn valid_port_inlined(p: Port) -> bool
 {
     let gathered = p.gathered;
     (legal(p.home) & valid_view(p.home, p.view))
-        & (valid_saved(p.home, p.hassaved, p.saved) & valid_wait(p.waiting, gathered, p.count))
+        & (valid_saved(p.home, p.hassaved, p.saved)
+            & (valid_wait(p.waiting, gathered, p.count) & within_lines(p.marks, p.home)))
 }
 
 // Every field 0 or false.
@@ -115,5 +118,6 @@ pub fn is_zero_port(p: Port) -> bool
 {
     let gathered = p.gathered;
     (is_zero_rect(p.home) & (is_zero_view(p.view) & is_zero_view(p.saved)))
-        & (!p.hassaved & ((p.waiting == 0) & (unused_zero(gathered, 0) & (p.count == 0))))
+        & (!p.hassaved
+            & ((p.waiting == 0) & (unused_zero(gathered, 0) & ((p.count == 0) & (p.marks == 0)))))
 }

@@ -1,5 +1,5 @@
 -- Codes that are printed, as a stream of them. Assumes nothing.
-use Prim.Native.Nat.{ℕ, _+_, _-_, _≤_, _<_}
+use Prim.Native.Nat.{ℕ, zero, suc, _+_, _-_, _≤_, _<_}
 use mathlib.Core.Path.{_≡_, refl, sym, ap, _∙_, subst}
 use mathlib.Core.Bool.{true}
 use mathlib.Core.List.{List, [], _∷_, _++_, append-nil}
@@ -16,9 +16,11 @@ use Rattle.rectangle.proofs.Local.{draw-append}
 use Rattle.charset.specs.declared.Mode.{Mode}
 use Rattle.charset.specs.Stored.{Printing, storedByte}
 use Rattle.screen.specs.Run.{AllPrinting, storedRun, RunStored}
+use Rattle.marks.specs.Marks.{marked, markedBy}
+use Rattle.marks.proofs.Marking.{marked-again}
 use Rattle.port.specs.declared.View.{View}
 use Rattle.port.specs.declared.Port.{Port}
-use Rattle.port.specs.State.{zeroPort, withView, cursorAt}
+use Rattle.port.specs.State.{zeroPort, withView, withDrawn, cursorAt}
 use Rattle.port.specs.Effect.{Effect, becomes}
 use Rattle.port.specs.Codes.{modeOf, storeCell, advance, moveCursorRight, printByte, print}
 use Rattle.port.specs.Step.{Outcome, onView, step}
@@ -27,7 +29,7 @@ use Rattle.port.proofs.Streams.{stream-cut}
 use Rattle.port.proofs.Prints.{step-prints}
 use Rattle.port.proofs.Views.{keeps-print-byte}
 use Rattle.printer.specs.Execute.{AllOnScreen, Drew, Executed}
-use Rattle.printer.specs.Print.{Placed, Printed}
+use Rattle.printer.specs.Print.{Placed, Printed, runMarks, RunPrinted}
 use Rattle.printer.proofs.Draws.{on-screen}
 
 -- a stream in two parts
@@ -59,33 +61,38 @@ single-executed p q b n s t d = record {
 pub byte-on-screen : (v : View) (byte : ℕ) → Placed v → AllOnScreen (printByte v byte .edits)
 byte-on-screen v byte h = on-screen (v .viewport) (h .legal .right-in) (h .legal .bottom-in) (printByte v byte .edits) (keeps-print-byte (v .viewport) v h byte .edits)
 
+-- the cursor's line is a line of the screen
+pub line-on-screen : (v : View) → Placed v → v .line ≤ 23
+line-on-screen v h = let l = h .legal in let k = h .to-bottom in omega arith
+
 -- a printing code, where nothing waits
-pub code-executed : (p : Port) (code byte : ℕ) → p .waiting ≡ 0 → Printing code → byte ≡ storedByte (modeOf (p .view)) code → (w : View) (s t : List ℕ) → Drew (printByte (p .view) byte) w s t
-    → Executed (step p code) (withView p w) 0 s t
+pub code-executed : (p : Port) (code byte : ℕ) → p .waiting ≡ 0 → Printing code → byte ≡ storedByte (modeOf (p .view)) code → (w : View) (after : ℕ) (s t : List ℕ) → Drew (printByte (p .view) byte) (p .marks) w after s t
+    → Executed (step p code) (withDrawn p w after) 0 s t
 unfolding print
-code-executed p code byte none large is w s t d =
+code-executed p code byte none large is w after s t d =
     let prints : step p code ≡ onView p (printByte (p .view) byte) = step-prints p code none large ∙ ap (λ (x : ℕ). onView p (printByte (p .view) x)) (sym is) in
-    subst (λ (m : Outcome). Executed m (withView p w) 0 s t) (sym prints) (record { port-is = ap (withView p) (d .view); bells-are = refl; cells = d .cells })
+    subst (λ (m : Outcome). Executed m (withDrawn p w after) 0 s t) (sym prints) (record { port-is = λ i. withDrawn p (d .view i) (d .marks i); bells-are = refl; cells = d .cells })
 
 -- where no code was printed the cells are as they were
-none-drawn : (v w : View) (bytes : List ℕ) (from n : ℕ) (s t : List ℕ) → n ≤ 0 → Printed v (take n (drop from bytes)) w s t → t ≡ s
+none-drawn : (v w : View) (bytes : List ℕ) (from n : ℕ) (s t : List ℕ) → n ≤ 0 → RunPrinted v n (take n (drop from bytes)) w s t → t ≡ s
 unfolding stream draw
 none-drawn v w bytes from n s t few printed =
     let nothing : n ≡ 0 = omega arith in
     subst (λ (k : ℕ). t ≡ draw (stream (withView zeroPort v) (take k (drop from bytes)) .edits) s) nothing (printed .as-stream (withView zeroPort v) refl refl .cells)
 
 -- one code alone, where there is no run
-pub one-printed : (v u w : View) (bytes : List ℕ) (from n byte : ℕ) (s s₁ t : List ℕ) → n ≤ 0 → Printed v (take n (drop from bytes)) u s s₁ → from < length bytes → Printing (getD bytes from 0)
+pub one-printed : (v u : View) (before : ℕ) (w : View) (after : ℕ) (bytes : List ℕ) (from n byte : ℕ) (s s₁ t : List ℕ) → n ≤ 0 → RunPrinted v n (take n (drop from bytes)) u s s₁ → from < length bytes → Printing (getD bytes from 0)
     → byte ≡ storedByte (modeOf v) (getD bytes from 0)
-    → Drew (printByte v byte) w s₁ t
-    → Printed v (take 1 (drop from bytes)) w s t
-one-printed v u w bytes from n byte s s₁ t few run inside large is d = record {
-  as-stream = λ p same none.
+    → Drew (printByte v byte) before w after s₁ t
+    → Printed v before (take 1 (drop from bytes)) w after s t
+one-printed v u before w after bytes from n byte s s₁ t few run inside large is d = record {
+  as-stream = λ p same none at.
       let code : ℕ = getD bytes from 0 in
-      let drew = subst (λ (x : List ℕ). Drew (printByte v byte) w x t) (none-drawn v u bytes from n s s₁ few run) d in
-      subst (λ (codes : List ℕ). Executed (stream p codes) (withView p w) 0 s t) (sym (alone-taken bytes from inside))
-      (single-executed p (withView p w) code 0 s t
-      (code-executed p code byte none large (is ∙ ap (λ (x : View). storedByte (modeOf x) code) (sym same)) w s t (subst (λ (x : View). Drew (printByte x byte) w s t) (sym same) drew)));
+      let drew = subst (λ (x : List ℕ). Drew (printByte v byte) before w after x t) (none-drawn v u bytes from n s s₁ few run) d in
+      subst (λ (codes : List ℕ). Executed (stream p codes) (withDrawn p w after) 0 s t) (sym (alone-taken bytes from inside))
+      (single-executed p (withDrawn p w after) code 0 s t
+      (code-executed p code byte none large (is ∙ ap (λ (x : View). storedByte (modeOf x) code) (sym same)) w after s t
+      (subst (λ (x : View). Drew (printByte x byte) (p .marks) w after s t) (sym same) (subst (λ (x : ℕ). Drew (printByte v byte) x w after s t) (sym at) drew))));
 }
 
 -- left of the right edge the cursor goes one to the right
@@ -93,30 +100,37 @@ advances : (v : View) → v .flags .advance ≡ true → v .column < v .viewport
 unfolding advance moveCursorRight
 advances v on less = simp (on, lt-ltb (v .column) (v .viewport .right) less)
 
-prints-left : (v : View) (byte : ℕ) (s : List ℕ) → v .flags .advance ≡ true → v .column < v .viewport .right
-    → Drew (printByte v byte) (cursorAt v (v .column + 1) (v .line)) s (edited (cellAt (v .column) (v .line)) Clear byte s)
+prints-left : (v : View) (byte marks : ℕ) (s : List ℕ) → v .flags .advance ≡ true → v .column < v .viewport .right
+    → Drew (printByte v byte) marks (cursorAt v (v .column + 1) (v .line)) (marked marks (v .line) (v .line)) s (edited (cellAt (v .column) (v .line)) Clear byte s)
 unfolding printByte storeCell draw
-prints-left v byte s on less =
+prints-left v byte marks s on less =
     let moves = sym (advances v on less) in
-    record { view = ap (λ (e : Effect). e .view) moves; cells = ap (λ (e : Effect). draw (e .edits) (edited (cellAt (v .column) (v .line)) Clear byte s)) moves }
+    record { view = ap (λ (e : Effect). e .view) moves; marks = ap (λ (e : Effect). markedBy (marked marks (v .line) (v .line)) (e .edits)) moves; cells = ap (λ (e : Effect). draw (e .edits) (edited (cellAt (v .column) (v .line)) Clear byte s)) moves }
+
+-- a run marks its line once
+run-again : (marks line n : ℕ) → runMarks (marked marks line line) line n ≡ marked marks line line
+run-again marks line zero = refl
+run-again marks line (suc n) = marked-again marks line line
 
 -- codes that stay left of the right edge: the first, and then the others
 run-executed : (codes : List ℕ) (p : Port) (s : List ℕ) → p .view .flags .advance ≡ true → p .view .column + length codes ≤ p .view .viewport .right → AllPrinting codes → p .waiting ≡ 0
-    → Executed (stream p codes) (withView p (cursorAt (p .view) (p .view .column + length codes) (p .view .line))) 0 s (storedRun (modeOf (p .view)) (p .view .column) (p .view .line) codes s)
+    → Executed (stream p codes) (withDrawn p (cursorAt (p .view) (p .view .column + length codes) (p .view .line)) (runMarks (p .marks) (p .view .line) (length codes))) 0 s (storedRun (modeOf (p .view)) (p .view .column) (p .view .line) codes s)
 unfolding storedRun modeOf
 run-executed [] p s on fits all none =
-    subst (λ (n : ℕ). Executed (stream p []) (withView p (cursorAt (p .view) n (p .view .line))) 0 s s) (sym (add-zero (p .view .column))) (nothing-executed p s)
+    subst (λ (n : ℕ). Executed (stream p []) (withDrawn p (cursorAt (p .view) n (p .view .line)) (p .marks)) 0 s s) (sym (add-zero (p .view .column))) (nothing-executed p s)
 run-executed (c ∷ cs) p s on fits all none =
     let v : View = p .view in
-    let q : Port = withView p (cursorAt v (v .column + 1) (v .line)) in
+    let lines : ℕ = marked (p .marks) (v .line) (v .line) in
+    let q : Port = withDrawn p (cursorAt v (v .column + 1) (v .line)) lines in
     let byte : ℕ = storedByte (modeOf v) c in
     let less : v .column < v .viewport .right = omega arith in
     let s₁ : List ℕ = edited (cellAt (v .column) (v .line)) Clear byte s in
     let t : List ℕ = storedRun (modeOf v) (v .column + 1) (v .line) cs s₁ in
     let place : v .column + 1 + length cs ≡ v .column + length (c ∷ cs) = omega arith in
-    let first = code-executed p c byte none (all .0) refl (q .view) s s₁ (prints-left v byte s on less) in
+    let first = code-executed p c byte none (all .0) refl (q .view) lines s s₁ (prints-left v byte (p .marks) s on less) in
     let rest = run-executed cs q s₁ on (omega arith) (all .1) none in
-    subst (λ (n : ℕ). Executed (stream p (c ∷ cs)) (withView p (cursorAt v n (v .line))) 0 s t) place (cut-executed p q _ (c ∷ []) cs 0 0 s s₁ t (single-executed p q c 0 s s₁ first) rest)
+    subst (λ (x : ℕ). Executed (stream p (c ∷ cs)) (withDrawn p (cursorAt v (v .column + length (c ∷ cs)) (v .line)) x) 0 s t) (run-again (p .marks) (v .line) (length cs))
+    (subst (λ (n : ℕ). Executed (stream p (c ∷ cs)) (withDrawn p (cursorAt v n (v .line)) (runMarks lines (v .line) (length cs))) 0 s t) place (cut-executed p q _ (c ∷ []) cs 0 0 s s₁ t (single-executed p q c 0 s s₁ first) rest))
 
 -- a run that was stored is printed
 module _ (v : View) (bytes : List ℕ) (from n : ℕ) (mode : Mode) (s t : List ℕ) (is : mode ≡ modeOf v) (on : v .flags .advance ≡ true) (placed : Placed v)
@@ -124,7 +138,7 @@ module _ (v : View) (bytes : List ℕ) (from n : ℕ) (mode : Mode) (s t : List 
   pub run-fits : v .column + n ≤ v .viewport .right
   run-fits = let fits = run .fits in let inside = placed .to-right in omega arith
 
-  pub run-printed : Printed v (take n (drop from bytes)) (cursorAt v (v .column + n) (v .line)) s t
+  pub run-printed : RunPrinted v n (take n (drop from bytes)) (cursorAt v (v .column + n) (v .line)) s t
   run-printed = record {
     as-stream = λ p same none.
         let codes : List ℕ = take n (drop from bytes) in
@@ -132,20 +146,24 @@ module _ (v : View) (bytes : List ℕ) (from n : ℕ) (mode : Mode) (s t : List 
         let stored : t ≡ storedRun (modeOf v) (v .column) (v .line) codes s = run .cells ∙ ap (λ (x : Mode). storedRun x (v .column) (v .line) codes s) is in
         let fits : v .column + length codes ≤ v .viewport .right = let h = run-fits in omega arith in
         let executed =
-        subst (λ (x : View). Executed (stream p codes) (withView p (cursorAt x (x .column + length codes) (x .line))) 0 s (storedRun (modeOf x) (x .column) (x .line) codes s)) same
+        subst (λ (x : View). Executed (stream p codes) (withDrawn p (cursorAt x (x .column + length codes) (x .line)) (runMarks (p .marks) (x .line) (length codes))) 0 s (storedRun (modeOf x) (x .column) (x .line) codes s)) same
         (run-executed codes p s (ap (λ (x : View). x .flags .advance) same ∙ on) (subst (λ (x : View). x .column + length codes ≤ x .viewport .right) (sym same) fits) (run .printing) none) in
-        subst (λ (u : List ℕ). Executed (stream p codes) (withView p (cursorAt v (v .column + n) (v .line))) 0 s u) (sym stored)
-        (subst (λ (k : ℕ). Executed (stream p codes) (withView p (cursorAt v (v .column + k) (v .line))) 0 s (storedRun (modeOf v) (v .column) (v .line) codes s)) long executed);
+        subst (λ (u : List ℕ). Executed (stream p codes) (withDrawn p (cursorAt v (v .column + n) (v .line)) (runMarks (p .marks) (v .line) n)) 0 s u) (sym stored)
+        (subst (λ (k : ℕ). Executed (stream p codes) (withDrawn p (cursorAt v (v .column + k) (v .line)) (runMarks (p .marks) (v .line) k)) 0 s (storedRun (modeOf v) (v .column) (v .line) codes s)) long executed);
   }
 
--- in an equal view
-pub printed-to : {v u w : View} {codes s t : List ℕ} → Printed v codes u s t → w ≡ u → Printed v codes w s t
-printed-to {v} {u} {w} {codes} {s} {t} printed is = subst (λ (x : View). Printed v codes x s t) (sym is) printed
+-- a run that is not empty, in an equal view, with its line marked
+pub run-marked : (v u w : View) (n before after : ℕ) (codes s t : List ℕ) → RunPrinted v n codes u s t → 0 < n → w ≡ u → after ≡ marked before (v .line) (v .line) → Printed v before codes w after s t
+run-marked v u w zero before after codes s t run some is marks-are = absurd (omega arith)
+run-marked v u w (suc n) before after codes s t run some is marks-are = record {
+  as-stream = λ p same none at.
+      subst (λ (q : Port). Executed (stream p codes) q 0 s t) (λ i. withDrawn p (sym is i) ((ap (λ (x : ℕ). marked x (v .line) (v .line)) at ∙ sym marks-are) i)) (run .as-stream p same none);
+}
 
 -- no code at all
-pub none-printed : (v : View) (bytes : List ℕ) (from : ℕ) (s : List ℕ) → Printed v (take 0 (drop from bytes)) (cursorAt v (v .column + 0) (v .line)) s s
+pub none-printed : (v : View) (bytes : List ℕ) (from : ℕ) (s : List ℕ) → RunPrinted v 0 (take 0 (drop from bytes)) (cursorAt v (v .column + 0) (v .line)) s s
 none-printed v bytes from s = record {
   as-stream = λ p same none.
-      subst (λ (n : ℕ). Executed (stream p []) (withView p (cursorAt v n (v .line))) 0 s s) (sym (add-zero (v .column)))
-      (subst (λ (x : View). Executed (stream p []) (withView p x) 0 s s) same (nothing-executed p s));
+      subst (λ (n : ℕ). Executed (stream p []) (withDrawn p (cursorAt v n (v .line)) (p .marks)) 0 s s) (sym (add-zero (v .column)))
+      (subst (λ (x : View). Executed (stream p []) (withDrawn p x (p .marks)) 0 s s) same (nothing-executed p s));
 }

@@ -11,6 +11,8 @@ use Rattle.rectangle.specs.Rectangles.{OnScreen}
 use Rattle.rectangle.specs.Edit.{edited, draw}
 use Rattle.rectangle.specs.Local.{AllWithin}
 use Rattle.rectangle.proofs.Local.{length-edited, draw-append}
+use Rattle.marks.specs.Marks.{markedIn, markedBy}
+use Rattle.marks.proofs.Marking.{marked-append}
 use Rattle.view.specs.declared.Change.{Change}
 use Rattle.view.specs.declared.Change.the-variants.{Nothing, Draw}
 use Rattle.view.specs.declared.ViewPlan.{ViewPlan}
@@ -42,6 +44,20 @@ pub draws-one : (change : Change) (e : Edit) (s t : List ℕ) → change ≡ Dra
 unfolding draw
 draws-one change e s t k h = rw k h
 
+pub marks-nothing : (marks : ℕ) (change : Change) → change ≡ Nothing → marks ≡ markedBy marks (changeList change)
+marks-nothing marks change k = rw k
+
+pub marks-one : (marks : ℕ) (change : Change) (e : Edit) {after : ℕ} → change ≡ Draw e → after ≡ markedIn marks (e .rect) → after ≡ markedBy marks (changeList change)
+marks-one marks change e k h = rw k h
+
+-- its lines are lines of the screen
+module _ (change : Change) (e : Edit) (k : change ≡ Draw e) (all : AllOnScreen (changeList change)) where
+  pub edit-down : e .rect .top ≤ e .rect .bottom
+  edit-down = drawn-edit change e k all .down
+
+  pub edit-bottom : e .rect .bottom ≤ 23
+  edit-bottom = drawn-edit change e k all .bottom-in
+
 pub edited-size : (r : Rect) (m : Motion) (fill : ℕ) (s t : List ℕ) → t ≡ edited r m fill s → length t ≡ 1920
 edited-size r m fill s t e = ap length e ∙ length-edited r m fill s
 
@@ -61,10 +77,14 @@ module _ (m : ViewPlan) where
   pub second-on-screen : AllOnScreen (planEffect m .edits) → AllOnScreen (changeList (m .second))
   second-on-screen all = back-on-screen (changeList (m .first)) (changeList (m .second)) all
 
-  pub drew-plan : {s s₁ t : List ℕ} → s₁ ≡ draw (changeList (m .first)) s → t ≡ draw (changeList (m .second)) s₁ → Drew (planEffect m) (m .view) s t
-  drew-plan {s} one two = record {
+  pub drew-plan : {before between after : ℕ} {s s₁ t : List ℕ} → between ≡ markedBy before (changeList (m .first)) → s₁ ≡ draw (changeList (m .first)) s → after ≡ markedBy between (changeList (m .second)) → t ≡ draw (changeList (m .second)) s₁
+      → Drew (planEffect m) before (m .view) after s t
+  drew-plan {before} {s = s} marks-first one marks-second two = record {
     view = refl;
+    marks =
+        marks-second ∙ ap (λ (n : ℕ). markedBy n (changeList (m .second))) marks-first
+        ∙ sym (marked-append before (changeList (m .first)) (changeList (m .second)));
     cells = two ∙ ap (draw (changeList (m .second))) one ∙ sym (draw-append (changeList (m .first)) (changeList (m .second)) s);
   }
 
-pub ruleset drawings = (drawn-edit, draws-nothing, draws-one)
+pub ruleset drawings = (drawn-edit, draws-nothing, draws-one, marks-nothing, marks-one, edit-down, edit-bottom)

@@ -5,6 +5,7 @@ use mathlib.Core.List.{List, [], _∷_}
 use Rattle.rectangle.specs.declared.Edit.{Edit}
 use Rattle.rectangle.specs.Rectangles.{OnScreen}
 use Rattle.rectangle.specs.Edit.{draw}
+use Rattle.marks.specs.Marks.{markedBy}
 use Rattle.port.specs.declared.View.{View}
 use Rattle.port.specs.declared.Port.{Port}
 use Rattle.port.specs.Effect.{Effect}
@@ -15,9 +16,10 @@ abbrev pub AllOnScreen : List Edit → Type 0
 AllOnScreen [] = Unit {0}
 AllOnScreen (e ∷ es) = OnScreen (e .rect) × AllOnScreen es
 
--- an effect was carried out: v is its view, and t are the cells s after its edits
-pub record Drew (e : Effect) (v : View) (s t : List ℕ) : Type 0 where
+-- an effect was carried out: v is its view, marks before became after with the lines of its edits, and t are the cells s after these
+pub record Drew (e : Effect) (before : ℕ) (v : View) (after : ℕ) (s t : List ℕ) : Type 0 where
   pub view : v ≡ e .view
+  pub marks : after ≡ markedBy before (e .edits)
   pub cells : t ≡ draw (e .edits) s
 
 -- an outcome was drawn, whatever it rings

@@ -2,7 +2,9 @@
 pub mod draw;
 
 use charset::stored_byte;
+use draw::Drawn;
 use draw::draw_moved;
+use marks::mark;
 use port::View;
 use port::state::cursor_at;
 use screen::store_cell;
@@ -16,26 +18,26 @@ ghost use Rattle.charset.specs.Stored.{Printing, Agrees, storedByte};
 ghost use Rattle.port.specs.State.{cursorAt};
 ghost use Rattle.port.specs.Codes.{modeOf, printByte, printSpaces};
 ghost use Rattle.printer.specs.Execute.{AllOnScreen, Drew};
-ghost use Rattle.printer.specs.Print.{Placed, Printed};
+ghost use Rattle.printer.specs.Print.{Placed, Printed, RunPrinted};
 
-// Prints a byte: it is stored at the cursor, and the cursor advances.
-pub fn print_byte(screen: &mut [u8], v: View, byte: u8) -> View
+// Prints a byte: it is stored at the cursor, whose line is marked, and the cursor advances.
+pub fn print_byte(screen: &mut [u8], v: View, marks: u32, byte: u8) -> Drawn
     requires { ⌜ AllOnScreen (printByte v byte .edits) × (length (now screen) ≡ 1920) ⌝ }
-    ensures { λ r. ⌜ Drew (printByte v byte) r (now (screen .entry)) (now (screen .exit)) ⌝ }
+    ensures { λ r. ⌜ Drew (printByte v byte) marks (r .view) (r .marks) (now (screen .entry)) (now (screen .exit)) ⌝ }
 {
     store_cell(screen, v.column, v.line, byte);
-    draw_moved(screen, advance(v))
+    draw_moved(screen, mark(marks, v.line, v.line), advance(v))
 }
 
 // Prints spaces, each stored as byte.
-pub fn print_spaces(screen: &mut [u8], v: View, byte: u8, count: u8) -> View
+pub fn print_spaces(screen: &mut [u8], v: View, marks: u32, byte: u8, count: u8) -> Drawn
     requires { ⌜ AllOnScreen (printSpaces count v .edits) × (byte ≡ storedByte (modeOf v) 0x20) × (length (now screen) ≡ 1920) ⌝ }
-    ensures { λ r. ⌜ Drew (printSpaces count v) r (now (screen .entry)) (now (screen .exit)) ⌝ }
+    ensures { λ r. ⌜ Drew (printSpaces count v) marks (r .view) (r .marks) (now (screen .entry)) (now (screen .exit)) ⌝ }
 {
-    let mut at = v;
+    let mut at = Drawn { view: v, marks };
     let mut left = count;
     while 0 < left {
-        at = print_byte(screen, at, byte);
+        at = print_byte(screen, at.view, at.marks, byte);
         left -= 1;
     }
     at
@@ -45,7 +47,7 @@ pub fn print_spaces(screen: &mut [u8], v: View, byte: u8, count: u8) -> View
 // The cursor is left for the caller to move. Returns how many they are, 0 where the cursor does not advance.
 fn print_run(screen: &mut [u8], table: &[u8; 768], v: View, bytes: &[u8], from: usize) -> usize
     requires { ⌜ Placed v × Agrees (now table) × (from ≤ length (now bytes)) × (length (now screen) ≡ 1920) ⌝ }
-    ensures { λ n. ⌜ (v .column + n ≤ v .viewport .right) × (from + n ≤ length (now (bytes .entry))) × Printed v (take n (drop from (now (bytes .entry)))) (cursorAt v (v .column + n) (v .line)) (now (screen .entry)) (now (screen .exit)) ⌝ }
+    ensures { λ n. ⌜ (v .column + n ≤ v .viewport .right) × (from + n ≤ length (now (bytes .entry))) × RunPrinted v n (take n (drop from (now (bytes .entry)))) (cursorAt v (v .column + n) (v .line)) (now (screen .entry)) (now (screen .exit)) ⌝ }
 {
     let viewport = v.viewport;
     let flags = v.flags;
@@ -65,9 +67,9 @@ fn print_run(screen: &mut [u8], table: &[u8; 768], v: View, bytes: &[u8], from: 
     0
 }
 
-// The view that printing leaves, and how many codes were printed.
+// What printing leaves, and how many codes were printed.
 pub struct PrintedCodes {
-    pub view: View,
+    pub drawn: Drawn,
     pub count: usize,
 }
 
@@ -77,22 +79,26 @@ pub fn print_codes(
     screen: &mut [u8],
     table: &[u8; 768],
     v: View,
+    marks: u32,
     bytes: &[u8],
     from: usize,
 ) -> PrintedCodes
     requires { ⌜ Placed v × Agrees (now table) × (from < length (now bytes)) × Printing (getD (now bytes) from 0) × (length (now screen) ≡ 1920) ⌝ }
-    ensures { λ r. ⌜ (0 < r .count) × (from + r .count ≤ length (now (bytes .entry))) × Printed v (take (r .count) (drop from (now (bytes .entry)))) (r .view) (now (screen .entry)) (now (screen .exit)) ⌝ }
+    ensures { λ r. ⌜ (0 < r .count) × (from + r .count ≤ length (now (bytes .entry))) × Printed v marks (take (r .count) (drop from (now (bytes .entry)))) (r .drawn .view) (r .drawn .marks) (now (screen .entry)) (now (screen .exit)) ⌝ }
 {
     let run = print_run(screen, table, v, bytes, from);
     if 0 < run {
         return PrintedCodes {
-            view: cursor_at(v, v.column + run as u8, v.line),
+            drawn: Drawn {
+                view: cursor_at(v, v.column + run as u8, v.line),
+                marks: mark(marks, v.line, v.line),
+            },
             count: run,
         };
     }
     let byte = stored_byte(table, mode_of(v), bytes[from]);
     PrintedCodes {
-        view: print_byte(screen, v, byte),
+        drawn: print_byte(screen, v, marks, byte),
         count: 1,
     }
 }

@@ -16,9 +16,9 @@ pub record SameCut {Status State : Type 0} (first second whole : Reply Status St
   pub screen : second .screen ≡ whole .screen
   pub count : first .result + second .result ≡ whole .result
 
--- demand 2: 'a port's block of text, handed out and put straight back, changes nothing'
-pub record RoundTrip {Status State Result : Type 0} (done : Status) (start : State) (s : List ℕ) (returned again : Reply Status State Result) : Type 0 where
+-- demand 2, which from request 02 on reads: 'a block handed out and put straight back changes nothing but the marks'. Then `end` is the state with these, and s the screen as it was.
+pub record RoundTrip {Status State Result : Type 0} (done : Status) (end : State) (s : List ℕ) (returned again : Reply Status State Result) : Type 0 where
   pub returned-done : returned .status ≡ done
   pub restored-done : again .status ≡ done
-  pub state : again .state ≡ start
+  pub state : again .state ≡ end
   pub screen : again .screen ≡ s

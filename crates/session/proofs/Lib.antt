@@ -1,3 +1,3 @@
--- `Feeding`: bytes fed in several calls are one write. `Answers`: bytes stored at the front of a slice.
+-- `Feeding`: bytes fed in several calls are one write. `Answers`: bytes stored to a slice, and a count that fits one.
 mod Feeding
 mod Answers

@@ -1,7 +1,7 @@
 -- Which slot a client has, and a multiplexer with another slot in a place: what reads as before, and when it is valid again. Assumes nothing.
 use Prim.Native.Nat.{ℕ, suc, _<_}
 use native.Mathlib.Omega.{arith}
-use mathlib.Core.Path.{_≡_, refl, sym, _∙_, subst}
+use mathlib.Core.Path.{_≡_, refl, sym, ap, _∙_, subst}
 use mathlib.Core.Bool.{false}
 use mathlib.Core.Logic.{_⊎_, inl, inr, ⊎-elim}
 use lib.Dec.{eqb}
@@ -9,10 +9,17 @@ use lib.ListN.{length-set}
 use lib.Seq.{getD-set-same, getD-set-other}
 use borrow.Author.Tests.{eqb-true, eqb-false}
 use Rattle.laws.proofs.Tests.{tested, not-both, below?, by-test, Decides, decides-eq, decides-lt, decides-both, decides-as, decides-not}
-use Rattle.rectangle.specs.Rectangles.{Apart}
+use Rattle.rectangle.specs.Rectangles.{Legal, Apart}
+use Rattle.rectangle.specs.declared.Rect.{Rect}
+use Rattle.marks.specs.Marks.{noMarks, markedIn}
+use Rattle.marks.proofs.Marking.{none-within, rect-within}
+use Rattle.port.specs.declared.Port.{Port}
+use Rattle.port.specs.State.{withMarks, freshPort}
+use Rattle.port.specs.Valid.{ValidPort}
+use Rattle.port.proofs.Validity.{fresh-valid, marks-valid}
 use Rattle.slots.specs.declared.Slot.{Slot}
 use Rattle.slots.specs.declared.Multiplexer.{Multiplexer}
-use Rattle.slots.specs.State.{noSlot, slotAt, pane, Open, slotOf, hasClient, withSlot, Closed}
+use Rattle.slots.specs.State.{newSlot, noSlot, freshSlot, slotAt, pane, Open, slotOf, hasClient, withSlot, Closed}
 use Rattle.slots.specs.Valid.{ValidMultiplexer}
 use Rattle.slots.proofs.Validity.{SlotFacts}
 
@@ -115,3 +122,10 @@ module _ (m : Multiplexer) (v : ValidMultiplexer m) (i : ℕ) (small : i < 4) (x
             (at-place j);
         free = λ j z. ⊎-elim (λ k. rw (k .1) (facts .0 (rw (k .1) at (z .1)))) (λ k. rw (k .1) (v .free j (z .0, rw (k .1) at (z .1)))) (at-place j);
       }
+
+-- ---- a slot just opened
+pub opened : (n : ℕ) (r : Rect) {marks : ℕ} {f p : Port} {x : Slot} → marks ≡ markedIn noMarks r → f ≡ freshPort r → p ≡ withMarks f marks → x ≡ newSlot n p → x ≡ freshSlot n r
+opened n r lines fresh at new = new ∙ ap (newSlot n) (at ∙ (λ i. withMarks (fresh i) (lines i)))
+
+pub opened-valid : (n : ℕ) (r : Rect) → Legal r → ValidPort (freshSlot n r .port)
+opened-valid n r l = marks-valid (freshPort r) (fresh-valid r l) (markedIn noMarks r) (rect-within noMarks r r (omega arith) (omega arith) (none-within r))

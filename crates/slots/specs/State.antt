@@ -6,8 +6,9 @@ use mathlib.Core.List.{[], _∷_}
 use lib.Dec.{ltb, eqb}
 use lib.ListN.{getD, set}
 use Rattle.rectangle.specs.declared.Rect.{Rect}
+use Rattle.marks.specs.Marks.{noMarks, markedIn}
 use Rattle.port.specs.declared.Port.{Port}
-use Rattle.port.specs.State.{zeroPort, freshPort, noPort}
+use Rattle.port.specs.State.{zeroPort, withMarks, freshPort, noPort}
 use Rattle.slots.specs.declared.Slot.{Slot}
 use Rattle.slots.specs.declared.Multiplexer.{Multiplexer}
 
@@ -65,6 +66,6 @@ withSlot m i x = record { slots = set (m .slots) i x }
 abbrev pub withPort : Multiplexer → ℕ → Port → Multiplexer
 withPort m i p = withSlot m i (newSlot (slotAt m i .client) p)
 
--- a slot just opened: a fresh port whose home is the pane
+-- a slot just opened: a fresh port whose home is the pane; request 02: 'opening marks the pane's lines'
 abbrev pub freshSlot : ℕ → Rect → Slot
-freshSlot n pane = newSlot n (freshPort pane)
+freshSlot n pane = newSlot n (withMarks (freshPort pane) (markedIn noMarks pane))

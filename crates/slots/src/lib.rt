@@ -2,10 +2,15 @@
 pub mod lookup;
 pub mod valid;
 
+use marks::mark;
 use port::Port;
+use port::state::fresh_port;
+use port::state::with_marks;
+use rectangle::Rect;
 ghost use mathlib.Core.Path.{_≡_};
 ghost use Prim.Native.Nat.{_<_};
-ghost use Rattle.slots.specs.State.{newSlot, slotAt, withSlot, withPort};
+ghost use Rattle.slots.specs.State.{newSlot, freshSlot, slotAt, withSlot, withPort};
+ghost use Rattle.rectangle.specs.Rectangles.{OnScreen};
 
 // A slot is the paper's seat, and client its bench number. Client 0: the slot is free, and every field is 0 or false.
 pub struct Slot {
@@ -21,6 +26,15 @@ pub fn new_slot(client: u8, port: Port) -> Slot
     ensures { λ r. ⌜ r ≡ newSlot client port ⌝ }
 {
     Slot { client, port }
+}
+
+// A slot just opened: a fresh port whose home is the pane, all of whose lines are marked.
+pub fn fresh_slot(client: u8, pane: Rect) -> Slot
+    requires { ⌜ OnScreen pane ⌝ }
+    ensures { λ r. ⌜ r ≡ freshSlot client pane ⌝ }
+{
+    let marks = mark(0, pane.top, pane.bottom);
+    new_slot(client, with_marks(fresh_port(pane), marks))
 }
 
 // The port of a slot.

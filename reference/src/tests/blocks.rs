@@ -1,6 +1,6 @@
 //! Blocks handed out and put back, and views of one row.
 
-use super::{patterned, small, Console};
+use super::{lines, patterned, small, Console};
 use crate::block::{block_restore, block_return, row_view};
 use crate::port::{cell, Port};
 
@@ -23,31 +23,33 @@ fn block_of_the_whole_screen() {
 }
 
 #[test]
-fn restore_writes_the_cells_only() {
+fn restore_writes_the_cells_and_marks_their_lines() {
     let mut screen = small().screen;
     let answer = block_restore(small().port, &mut screen, b"\x03\x03jklmnopqr");
-    assert_eq!(answer, (0, small().port, 0));
     let end = small().but(|c| {
-        c.rows([b"jkl", b"mno", b"pqr"]);
+        c.rows([b"jkl", b"mno", b"pqr"]).mark(5, 7);
     });
+    assert_eq!(answer, (0, end.port, 0));
     assert_eq!(screen, end.screen);
 }
 
 #[test]
-fn handed_out_and_put_back_changes_nothing() {
+fn handed_out_and_put_back_changes_nothing_but_the_marks() {
     let waiting = small().but(|c| {
         c.port.waiting = 0x02;
         c.port.gathered = 1;
         c.port.parameters[0] = 0x07;
     });
     let whole = Console { port: Port::fresh(), screen: patterned() };
-    for (start, size) in [(small(), 11), (waiting, 11), (whole, 1922)] {
+    for (start, size, marks) in
+        [(small(), 11, lines(5, 7)), (waiting, 11, lines(5, 7)), (whole, 1922, lines(0, 23))]
+    {
         let mut screen = start.screen.clone();
         let mut block = vec![0; size];
         let answer = block_return(start.port, &screen, &mut block);
         assert_eq!(answer, (0, start.port, size));
         let answer = block_restore(start.port, &mut screen, &block);
-        assert_eq!(answer, (0, start.port, 0));
+        assert_eq!(answer, (0, Port { marks, ..start.port }, 0));
         assert_eq!(screen, start.screen);
     }
 }

@@ -7,7 +7,7 @@ use crate::port::{Cursor, Port, State};
 #[test]
 fn p1_normal_letter() {
     let end = fresh().but(|c| {
-        c.store(0, 0, 0x81).cursor(1, 0);
+        c.store(0, 0, 0x81).cursor(1, 0).mark(0, 0);
     });
     assert_eq!(end.port.state.viewport, rectangle(0, 0, 79, 23));
     check(&fresh(), &[0x41], &end, 0);
@@ -16,7 +16,7 @@ fn p1_normal_letter() {
 #[test]
 fn p2_inverse_letter() {
     let end = fresh().but(|c| {
-        c.store(0, 0, 0x01).cursor(1, 0);
+        c.store(0, 0, 0x01).cursor(1, 0).mark(0, 0);
         c.port.state.inverse = true;
     });
     check(&fresh(), &[0x0F, 0x41], &end, 0);
@@ -25,7 +25,7 @@ fn p2_inverse_letter() {
 #[test]
 fn p3_mousetext_letter() {
     let end = fresh().but(|c| {
-        c.store(0, 0, 0x41).cursor(1, 0);
+        c.store(0, 0, 0x41).cursor(1, 0).mark(0, 0);
         c.port.state.inverse = true;
         c.port.state.mousetext = true;
     });
@@ -35,7 +35,7 @@ fn p3_mousetext_letter() {
 #[test]
 fn p4_mousetext_needs_inverse() {
     let end = fresh().but(|c| {
-        c.store(0, 0, 0x81).cursor(1, 0);
+        c.store(0, 0, 0x81).cursor(1, 0).mark(0, 0);
         c.port.state.mousetext = true;
     });
     check(&fresh(), &[0x1B, 0x41], &end, 0);
@@ -44,7 +44,7 @@ fn p4_mousetext_needs_inverse() {
 #[test]
 fn p5_high_code() {
     let end = fresh().but(|c| {
-        c.store(0, 0, 0x61).cursor(1, 0);
+        c.store(0, 0, 0x61).cursor(1, 0).mark(0, 0);
     });
     check(&fresh(), &[0xE1], &end, 0);
 }
@@ -79,7 +79,7 @@ fn p9_printing_at_bottom_right() {
         c.cursor(79, 23);
     });
     let end = fresh().but(|c| {
-        c.store(79, 22, 0x81).cursor(0, 23);
+        c.store(79, 22, 0x81).cursor(0, 23).mark(0, 23);
     });
     check(&start, &[0x41], &end, 0);
     check(&fresh(), &[0x1E, 0x6F, 0x37, 0x41], &end, 0);
@@ -88,7 +88,7 @@ fn p9_printing_at_bottom_right() {
 #[test]
 fn p10_backspace_at_top_left() {
     let end = fresh().but(|c| {
-        c.cursor(79, 0);
+        c.cursor(79, 0).mark(0, 23);
     });
     check(&fresh(), &[0x08], &end, 0);
 }
@@ -104,7 +104,7 @@ fn three_letters() -> Console {
 #[test]
 fn p11_shift_left_by_one() {
     let end = three_letters().but(|c| {
-        c.rows([b"\x82\x83\xA0", b"\x82\x83\xA0", b"\x82\x83\xA0"]);
+        c.rows([b"\x82\x83\xA0", b"\x82\x83\xA0", b"\x82\x83\xA0"]).mark(5, 7);
     });
     check(&three_letters(), &[0x05, 0xFF], &end, 0);
 }
@@ -112,7 +112,7 @@ fn p11_shift_left_by_one() {
 #[test]
 fn p12_shift_left_by_128() {
     let end = three_letters().but(|c| {
-        c.rows([b"...", b"...", b"..."]);
+        c.rows([b"...", b"...", b"..."]).mark(5, 7);
     });
     assert_eq!(end.screen, fresh().screen);
     check(&three_letters(), &[0x05, 0x80], &end, 0);
@@ -128,7 +128,7 @@ fn shift_and_its_zero_in_two_writes() {
     // The $00 is the parameter, so the $43 after it is printed.
     let start = Console { port, screen: console.screen };
     let end = fresh().but(|c| {
-        c.store(5, 3, 0x42).store(0, 0, 0x83).cursor(1, 0);
+        c.store(5, 3, 0x42).store(0, 0, 0x83).cursor(1, 0).mark(0, 0);
     });
     check(&start, &[0x00, 0x43], &end, 0);
 }
@@ -144,7 +144,7 @@ fn dle_of_223_spaces() {
         for column in 0..63 {
             c.store(column, 2, 0xA0);
         }
-        c.cursor(63, 2);
+        c.cursor(63, 2).mark(0, 2);
     });
     check(&start, &[0x10, 0xFF], &end, 0);
 }
@@ -166,7 +166,7 @@ fn home_of_two_by_two() {
     // A to D fill it; the D scrolls it; E lands on the bottom line.
     let end = start.but(|c| {
         c.store(10, 5, 0x83).store(11, 5, 0x84);
-        c.store(10, 6, 0x85).store(11, 6, 0xA0).cursor(11, 6);
+        c.store(10, 6, 0x85).store(11, 6, 0xA0).cursor(11, 6).mark(5, 6);
     });
     check(&start, b"ABCDE", &end, 0);
     // No viewport but home itself fits.
@@ -204,7 +204,7 @@ fn slip_parameter_after_a_cut_is_no_code() {
         c.store(0, 3, 0x42).store(75, 3, 0x43);
     });
     let end = fresh().but(|c| {
-        c.store(7, 3, 0x42);
+        c.store(7, 3, 0x42).mark(0, 23);
     });
     check(&start, &[0x05, 0x07], &end, 0);
     // Control codes inside $02 make it an ignored command, no more.
@@ -219,7 +219,7 @@ fn slip_backspace_scrolls_and_goes_right() {
         c.store(0, 0, 0x42).store(79, 22, 0x43).store(5, 23, 0x44);
     });
     let end = fresh().but(|c| {
-        c.store(0, 1, 0x42).store(79, 23, 0x43).cursor(79, 0);
+        c.store(0, 1, 0x42).store(79, 23, 0x43).cursor(79, 0).mark(0, 23);
     });
     check(&start, &[0x08], &end, 0);
 }
@@ -227,7 +227,7 @@ fn slip_backspace_scrolls_and_goes_right() {
 #[test]
 fn slip_dle_spaces_in_inverse() {
     let end = fresh().but(|c| {
-        c.store(0, 0, 0x20).store(1, 0, 0x20).store(2, 0, 0x20).cursor(3, 0);
+        c.store(0, 0, 0x20).store(1, 0, 0x20).store(2, 0, 0x20).cursor(3, 0).mark(0, 0);
         c.port.state.inverse = true;
     });
     check(&fresh(), &[0x0F, 0x10, 0x23], &end, 0);

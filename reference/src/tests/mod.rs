@@ -5,14 +5,18 @@ mod codes;
 mod examples;
 mod field_keys;
 mod field_refusals;
+mod marks;
+mod marks_taking;
 mod modes;
 mod moves;
+mod multiplexer_marks;
 mod multiplexer_panes;
 mod multiplexer_refusals;
 mod multiplexer_validity;
 mod multiplexers;
 mod program;
 mod refusals;
+mod script_marks;
 mod scripts;
 mod stored;
 mod validity;
@@ -30,6 +34,15 @@ pub struct Console {
 
 pub fn rectangle(left: u8, top: u8, right: u8, bottom: u8) -> Rectangle {
     Rectangle { left, top, right, bottom }
+}
+
+/// The marks of the lines from `top` to `bottom`, both included.
+pub fn lines(top: u8, bottom: u8) -> u32 {
+    let mut marks = 0;
+    for line in top..=bottom {
+        marks |= 1 << line;
+    }
+    marks
 }
 
 /// A fresh console on a blank screen.
@@ -80,6 +93,12 @@ impl Console {
                 self.store(10 + column as u8, 5 + line as u8, byte);
             }
         }
+        self
+    }
+
+    /// Marks the lines from `top` to `bottom`, both included.
+    pub fn mark(&mut self, top: u8, bottom: u8) -> &mut Console {
+        self.port.marks |= lines(top, bottom);
         self
     }
 

@@ -65,7 +65,7 @@ fn movement_flags() {
 #[test]
 fn dle_spaces() {
     let end = at(12, 6).but(|c| {
-        c.rows([b"abc", b".\xA0f", b"ghi"]);
+        c.rows([b"abc", b".\xA0f", b"ghi"]).mark(6, 6);
     });
     check(&at(10, 6), &[0x10, 0x22], &end, 0);
     for none in [0x00, 0x07, 0x1F, 0x20] {
@@ -73,7 +73,7 @@ fn dle_spaces() {
     }
     // Wrapping and scrolling as printing does: 4 spaces from (11,7).
     let end = at(12, 7).but(|c| {
-        c.rows([b"def", b"g..", b"..."]);
+        c.rows([b"def", b"g..", b"..."]).mark(5, 7);
     });
     check(&at(11, 7), &[0x10, 0x24], &end, 0);
 }
@@ -85,12 +85,12 @@ fn dle_without_its_flag_or_without_advance() {
     check_idle(&off, &[0x10, 0x07]);
     // Its byte is dropped, the one after it is not.
     let end = off.but(|c| {
-        c.store(10, 6, 0x82).cursor(11, 6);
+        c.store(10, 6, 0x82).cursor(11, 6).mark(6, 6);
     });
     check(&off, &[0x10, 0x41, 0x42], &end, 0);
     let still = at(10, 6).but(|c| c.port.state.flags.advance = false);
     let end = still.but(|c| {
-        c.rows([b"abc", b".ef", b"ghi"]);
+        c.rows([b"abc", b".ef", b"ghi"]).mark(6, 6);
     });
     check(&still, &[0x10, 0x25], &end, 0);
 }

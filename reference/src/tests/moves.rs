@@ -23,7 +23,7 @@ fn backspace() {
     check(&at(10, 6), &[0x08], &at(12, 5), 0);
     check_idle(&flags(&at(10, 6), true, false), &[0x08]);
     let end = at(12, 5).but(|c| {
-        c.rows(DOWN);
+        c.rows(DOWN).mark(5, 7);
     });
     check(&at(10, 5), &[0x08], &end, 0);
     check_idle(&flags(&at(10, 5), false, true), &[0x08]);
@@ -39,7 +39,7 @@ fn cursor_right() {
     check(&at(12, 6), &[0x1C], &at(10, 7), 0);
     check_idle(&flags(&at(12, 6), true, false), &[0x1C]);
     let end = at(10, 7).but(|c| {
-        c.rows(UP);
+        c.rows(UP).mark(5, 7);
     });
     check(&at(12, 7), &[0x1C], &end, 0);
     check_idle(&flags(&at(12, 7), false, true), &[0x1C]);
@@ -52,7 +52,7 @@ fn cursor_right() {
 fn line_feed() {
     check(&at(11, 6), &[0x0A], &at(11, 7), 0);
     let end = at(11, 7).but(|c| {
-        c.rows(UP);
+        c.rows(UP).mark(5, 7);
     });
     check(&at(11, 7), &[0x0A], &end, 0);
     check(&flags(&at(11, 7), true, false), &[0x0A], &flags(&end, true, false), 0);
@@ -63,7 +63,7 @@ fn line_feed() {
 fn cursor_up() {
     check(&at(11, 6), &[0x1F], &at(11, 5), 0);
     let end = at(11, 5).but(|c| {
-        c.rows(DOWN);
+        c.rows(DOWN).mark(5, 7);
     });
     check(&at(11, 5), &[0x1F], &end, 0);
     check(&flags(&at(11, 5), true, false), &[0x1F], &flags(&end, true, false), 0);
@@ -74,7 +74,7 @@ fn cursor_up() {
 fn carriage_return() {
     check(&at(12, 6), &[0x0D], &at(10, 7), 0);
     let end = at(10, 7).but(|c| {
-        c.rows(UP);
+        c.rows(UP).mark(5, 7);
     });
     check(&at(12, 7), &[0x0D], &end, 0);
     check(&flags(&at(12, 7), false, true), &[0x0D], &flags(&at(10, 7), false, true), 0);

@@ -2,7 +2,7 @@
 //! of another one, as they are.
 
 use super::multiplexers::{blanked, check_cells, four, free, slot};
-use super::{patterned, rectangle, small};
+use super::{lines, patterned, rectangle, small};
 use crate::multiplexer::{block_restore, block_return, write, Multiplexer};
 use crate::port::{Cursor, State};
 
@@ -14,10 +14,11 @@ fn start() -> Multiplexer {
     multiplexer
 }
 
-/// A write for client 7 that changes only its port, by the given change,
-/// and its pane, to the given lines; a dot stands for a blank.
-fn check(bytes: &[u8], rows: [&[u8; 3]; 3], bells: usize, change: impl Fn(&mut State)) {
+/// A write for client 7 that changes only its port, by these marks and the
+/// given change, and its pane, to the given lines; a dot stands for a blank.
+fn check(bytes: &[u8], rows: [&[u8; 3]; 3], marks: u32, bells: usize, change: impl Fn(&mut State)) {
     let mut end = start();
+    end.slots[0].port.marks = marks;
     change(&mut end.slots[0].port.state);
     let screen = small().but(|c| {
         c.rows(rows);
@@ -38,46 +39,48 @@ fn at(column: u8, line: u8) -> impl Fn(&mut State) {
 
 #[test]
 fn write_changes_one_port_and_its_pane() {
-    check(b"A", [b"abc", b"d\x81f", b"ghi"], 0, at(12, 6));
-    check(b"ABCDE", [b"d\x81\x82", b"\x83\x84\x85", b"..."], 0, at(10, 7));
-    check(b"\x07A\x07\x0F", [b"abc", b"d\x81f", b"ghi"], 2, |state| {
+    check(b"A", [b"abc", b"d\x81f", b"ghi"], lines(6, 6), 0, at(12, 6));
+    check(b"ABCDE", [b"d\x81\x82", b"\x83\x84\x85", b"..."], lines(5, 7), 0, at(10, 7));
+    check(b"\x07A\x07\x0F", [b"abc", b"d\x81f", b"ghi"], lines(6, 6), 2, |state| {
         state.cursor.column = 12;
         state.inverse = true;
     });
-    check(b"\x15\xE0", [b"abc", b"def", b"ghi"], 0, |state| state.flags = free().port.state.flags);
+    let none = free().port.state.flags;
+    check(b"\x15\xE0", [b"abc", b"def", b"ghi"], 0, 0, |state| state.flags = none);
     // The edges are the pane's.
-    check(b"\x1E\x7F\x7F", [b"abc", b"def", b"ghi"], 0, at(12, 7));
-    check(b"\x19\x08", [b"...", b"abc", b"def"], 0, at(12, 5));
-    check(b"\x0A\x0A", [b"def", b"ghi", b"..."], 0, at(11, 7));
+    check(b"\x1E\x7F\x7F", [b"abc", b"def", b"ghi"], 0, 0, at(12, 7));
+    check(b"\x19\x08", [b"...", b"abc", b"def"], lines(5, 7), 0, at(12, 5));
+    check(b"\x0A\x0A", [b"def", b"ghi", b"..."], lines(5, 7), 0, at(11, 7));
 }
 
 #[test]
 fn erasing_and_moving_stay_in_the_pane() {
-    check(&[0x03], [b"abc", b"..f", b"ghi"], 0, |_| {});
-    check(&[0x1D], [b"abc", b"d..", b"ghi"], 0, |_| {});
-    check(&[0x1A], [b"abc", b"...", b"ghi"], 0, |_| {});
-    check(&[0x13], [b"...", b"..f", b"ghi"], 0, |_| {});
-    check(&[0x0B], [b"abc", b"d..", b"..."], 0, |_| {});
-    check(&[0x0C], [b"...", b"...", b"..."], 0, at(10, 5));
-    check(&[0x16], [b"...", b"abc", b"def"], 0, |_| {});
-    check(&[0x17], [b"def", b"ghi", b"..."], 0, |_| {});
-    check(&[0x05, 0x01], [b".ab", b".de", b".gh"], 0, |_| {});
-    check(&[0x05, 0xFE], [b"c..", b"f..", b"i.."], 0, |_| {});
+    check(&[0x03], [b"abc", b"..f", b"ghi"], lines(6, 6), 0, |_| {});
+    check(&[0x1D], [b"abc", b"d..", b"ghi"], lines(6, 6), 0, |_| {});
+    check(&[0x1A], [b"abc", b"...", b"ghi"], lines(6, 6), 0, |_| {});
+    check(&[0x13], [b"...", b"..f", b"ghi"], lines(5, 6), 0, |_| {});
+    check(&[0x0B], [b"abc", b"d..", b"..."], lines(6, 7), 0, |_| {});
+    check(&[0x0C], [b"...", b"...", b"..."], lines(5, 7), 0, at(10, 5));
+    check(&[0x16], [b"...", b"abc", b"def"], lines(5, 7), 0, |_| {});
+    check(&[0x17], [b"def", b"ghi", b"..."], lines(5, 7), 0, |_| {});
+    check(&[0x05, 0x01], [b".ab", b".de", b".gh"], lines(5, 7), 0, |_| {});
+    check(&[0x05, 0xFE], [b"c..", b"f..", b"i.."], lines(5, 7), 0, |_| {});
     // 223 spaces.
-    check(&[0x10, 0xFF], [b"...", b"...", b"..."], 0, at(12, 7));
+    check(&[0x10, 0xFF], [b"...", b"...", b"..."], lines(5, 7), 0, at(12, 7));
 }
 
 #[test]
 fn slip_viewport_clamped_to_the_pane() {
     // $02 for all columns and lines, by 79 and 23 and by 95 and 95.
     let rows = [b"...", b"...", b"..."];
-    check(&[0x02, 0x20, 0x20, 0x6F, 0x37, 0x0C], rows, 0, at(10, 5));
-    check(&[0x02, 0x20, 0x20, 0x7F, 0x7F, 0x0C], rows, 0, at(10, 5));
-    // (11,6,79,23) is cut to the pane, (13,5,20,7) has no column in it.
-    check(&[0x02, 0x2B, 0x26, 0x6F, 0x37, 0x0C], [b"abc", b"d..", b"g.."], 0, |state| {
+    check(&[0x02, 0x20, 0x20, 0x6F, 0x37, 0x0C], rows, lines(5, 7), 0, at(10, 5));
+    check(&[0x02, 0x20, 0x20, 0x7F, 0x7F, 0x0C], rows, lines(5, 7), 0, at(10, 5));
+    // (13,5,20,7) has no column in the pane, (11,6,79,23) is cut to it.
+    check(&[0x02, 0x2D, 0x25, 0x34, 0x27, 0x0C], rows, lines(5, 7), 0, at(10, 5));
+    let rows = [b"abc", b"d..", b"g.."];
+    check(&[0x02, 0x2B, 0x26, 0x6F, 0x37, 0x0C], rows, lines(6, 7), 0, |state| {
         state.viewport = rectangle(11, 6, 12, 7);
     });
-    check(&[0x02, 0x2D, 0x25, 0x34, 0x27, 0x0C], rows, 0, at(10, 5));
 }
 
 #[test]
@@ -87,10 +90,11 @@ fn slip_save_gives_the_pane() {
     end.slots[0].port.has_saved = true;
     end.slots[0].port.saved = start().slots[0].port.state;
     end.slots[0].port.state.cursor = Cursor { column: 10, line: 5 };
+    end.slots[0].port.marks = lines(5, 7);
     let cells = blanked(patterned(), rectangle(10, 5, 12, 7));
     check_end(&[0x01, 0x0C], &end, &cells, 0);
     // $04 with nothing saved.
-    check(&[0x04, 0x0C], [b"...", b"...", b"..."], 0, at(10, 5));
+    check(&[0x04, 0x0C], [b"...", b"...", b"..."], lines(5, 7), 0, at(10, 5));
 }
 
 #[test]
@@ -121,7 +125,9 @@ fn commands_wait_for_their_own_slot() {
     assert_eq!((status, multiplexer, bells), (0, waits, 0));
     assert_eq!(write(multiplexer, &mut screen, 200, &[0x07]), (0, waits, 1));
     check_cells(&screen, &small().screen);
-    assert_eq!(write(multiplexer, &mut screen, 7, &[0x01]), (0, start(), 0));
+    let mut shifted = start();
+    shifted.slots[0].port.marks = lines(5, 7);
+    assert_eq!(write(multiplexer, &mut screen, 7, &[0x01]), (0, shifted, 0));
     let end = small().but(|c| {
         c.rows([b".ab", b".de", b".gh"]);
     });
@@ -146,14 +152,18 @@ fn block_return_changes_no_slot_and_no_cell() {
 fn block_restore_changes_the_viewport_only() {
     let mut screen = small().screen;
     let answer = block_restore(start(), &mut screen, 7, b"\x03\x03jklmnopqr");
-    assert_eq!(answer, (0, start(), 0));
+    let mut restored = start();
+    restored.slots[0].port.marks = lines(5, 7);
+    assert_eq!(answer, (0, restored, 0));
     let end = small().but(|c| {
         c.rows([b"jkl", b"mno", b"pqr"]);
     });
     check_cells(&screen, &end.screen);
     let mut multiplexer = start();
     multiplexer.slots[0].port.state.viewport = rectangle(11, 6, 12, 7);
-    assert_eq!(block_restore(multiplexer, &mut screen, 7, b"\x02\x02stuv"), (0, multiplexer, 0));
+    let answer = block_restore(multiplexer, &mut screen, 7, b"\x02\x02stuv");
+    multiplexer.slots[0].port.marks = lines(6, 7);
+    assert_eq!(answer, (0, multiplexer, 0));
     let end = small().but(|c| {
         c.rows([b"jkl", b"mst", b"puv"]);
     });
@@ -161,12 +171,17 @@ fn block_restore_changes_the_viewport_only() {
 }
 
 #[test]
-fn handed_out_and_put_back_changes_nothing() {
-    for (client, size) in [(7, 11), (255, 50), (200, 26), (1, 6)] {
+fn handed_out_and_put_back_changes_nothing_but_the_marks() {
+    for (place, size, marks) in
+        [(0, 11, lines(5, 7)), (1, 50, lines(8, 23)), (2, 26, lines(5, 7)), (3, 6, lines(22, 23))]
+    {
+        let client = four().slots[place].client;
         let mut screen = patterned();
         let mut block = vec![0x55; size];
         assert_eq!(block_return(four(), &screen, client, &mut block), (0, four(), size));
-        assert_eq!(block_restore(four(), &mut screen, client, &block), (0, four(), 0));
+        let mut end = four();
+        end.slots[place].port.marks = marks;
+        assert_eq!(block_restore(four(), &mut screen, client, &block), (0, end, 0));
         check_cells(&screen, &patterned());
     }
 }
@@ -193,11 +208,13 @@ fn order_between_clients_does_not_matter() {
     let mut end = start();
     end.slots[0].port.state.viewport = rectangle(10, 5, 11, 6);
     end.slots[0].port.state.cursor = Cursor { column: 11, line: 5 };
+    end.slots[0].port.marks = lines(5, 5);
     end.slots[3].port.state.inverse = true;
     end.slots[3].port.state.cursor = Cursor { column: 79, line: 22 };
     end.slots[3].port.has_saved = true;
     end.slots[3].port.saved = slot(1, 78, 22, 79, 23).port.state;
     end.slots[3].port.saved.inverse = true;
+    end.slots[3].port.marks = lines(22, 23);
     let cells = small().but(|c| {
         c.rows([b"\x82bc", b"def", b"ghi"]);
         c.store(78, 22, b'w').store(79, 22, b'x').store(78, 23, b'y').store(79, 23, b'z');

@@ -2,8 +2,9 @@
 //! nothing changed.
 
 use super::multiplexers::{check_cells, four, slot, two};
-use super::{patterned, rectangle};
-use crate::multiplexer::{block_restore, block_return, close, open, write, Multiplexer, Slot};
+use super::{lines, patterned, rectangle};
+use crate::multiplexer::{block_restore, block_return, close, open, take_marks, write};
+use crate::multiplexer::{Multiplexer, Slot};
 use crate::port::{Cursor, Flags, Port, Rectangle, State};
 
 fn check_open(multiplexer: Multiplexer, screen: &[u8], client: u8, pane: Rectangle, status: u8) {
@@ -35,14 +36,18 @@ fn check_restore(multiplexer: Multiplexer, screen: &[u8], client: u8, block: &[u
 }
 
 /// Multiplexers that are not valid: in the slot of client 7, in another
-/// one, in a free one, a client twice, panes that share a cell.
+/// one, in a free one, a client twice, panes that share a cell, and marks
+/// outside the lines of client 7, of another one and in a free slot.
 fn invalid() -> Vec<Multiplexer> {
-    let mut multiplexers = vec![two(), two(), two(), two(), two()];
+    let mut multiplexers = vec![two(); 8];
     multiplexers[0].slots[0].port.state.cursor.column = 13;
     multiplexers[1].slots[2].port.gathered = 1;
     multiplexers[2].slots[3].port.has_saved = true;
     multiplexers[3].slots[3] = slot(7, 0, 0, 1, 1);
     multiplexers[4].slots[1] = slot(9, 12, 7, 13, 8);
+    multiplexers[5].slots[0].port.marks = lines(4, 4);
+    multiplexers[6].slots[2].port.marks = lines(5, 8);
+    multiplexers[7].slots[1].port.marks = lines(0, 0);
     multiplexers
 }
 
@@ -91,6 +96,7 @@ fn invalid_multiplexer_is_2() {
                 check_open(multiplexer, &screen, client, pane, 2);
             }
             assert_eq!(close(multiplexer, client), (2, multiplexer, 0));
+            assert_eq!(take_marks(multiplexer, client), (2, multiplexer, 0, 0));
             check_write(multiplexer, &screen, client, b"A\x07\x0C", 2);
             check_write(multiplexer, &screen, client, b"", 2);
             check_return(multiplexer, &screen, client, 11, 2);
@@ -108,11 +114,20 @@ fn any_value_in_every_field_comes_back() {
         let flags = Flags { dle: on, scroll: on, wrap: on, lf: on, advance: on };
         let cursor = Cursor { column: byte, line: byte };
         let state = State { viewport: home, cursor, flags, inverse: on, mousetext: on };
-        let (waiting, gathered, parameters) = (byte, byte, [byte; 4]);
-        let port = Port { home, state, has_saved: on, saved: state, waiting, gathered, parameters };
+        let port = Port {
+            home,
+            state,
+            has_saved: on,
+            saved: state,
+            waiting: byte,
+            gathered: byte,
+            parameters: [byte; 4],
+            marks: u32::from_le_bytes([byte; 4]),
+        };
         let multiplexer = Multiplexer { slots: [Slot { client: byte, port }; 4] };
         check_open(multiplexer, &patterned(), byte, PANES[0], 2);
         assert_eq!(close(multiplexer, byte), (2, multiplexer, 0));
+        assert_eq!(take_marks(multiplexer, byte), (2, multiplexer, 0, 0));
         check_write(multiplexer, &patterned(), byte, b"A\x07\x0C", 2);
         check_return(multiplexer, &patterned(), byte, 1922, 2);
         check_restore(multiplexer, &patterned(), byte, &FITTING, 2);
@@ -170,6 +185,7 @@ fn client_that_is_not_open_is_8() {
                 continue;
             }
             assert_eq!(close(multiplexer, client), (8, multiplexer, 0));
+            assert_eq!(take_marks(multiplexer, client), (8, multiplexer, 0, 0));
             check_write(multiplexer, &screen, client, b"A\x07\x0C", 8);
             check_write(multiplexer, &screen, client, b"", 8);
             // With blocks of any length: 8 comes before 9 and 10.
@@ -186,6 +202,7 @@ fn closed_client_is_8() {
     let (status, multiplexer, _) = close(two(), 7);
     assert_eq!(status, 0);
     assert_eq!(close(multiplexer, 7), (8, multiplexer, 0));
+    assert_eq!(take_marks(multiplexer, 7), (8, multiplexer, 0, 0));
     check_write(multiplexer, &patterned(), 7, b"A", 8);
     check_return(multiplexer, &patterned(), 7, 11, 8);
     check_restore(multiplexer, &patterned(), 7, &FITTING, 8);
@@ -219,7 +236,9 @@ fn block_that_does_not_fit_is_10() {
     }
     // A block of client 7 does not fit client 200.
     check_restore(two(), &screen, 200, &FITTING, 10);
-    assert_eq!(block_restore(two(), &mut patterned(), 7, &FITTING), (0, two(), 0));
+    let mut end = two();
+    end.slots[0].port.marks = lines(5, 7);
+    assert_eq!(block_restore(two(), &mut patterned(), 7, &FITTING), (0, end, 0));
 }
 
 #[test]

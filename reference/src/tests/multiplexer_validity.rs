@@ -1,5 +1,6 @@
 //! Each clause of a multiplexer's validity, broken once.
 
+use super::lines;
 use super::multiplexers::{four, free, slot, two};
 use crate::multiplexer::{Multiplexer, Slot};
 use crate::port::{Port, State};
@@ -29,6 +30,8 @@ fn changed_fields(start: Slot) -> Vec<Slot> {
     add(|port| port.parameters[1] = 1);
     add(|port| port.parameters[2] = 1);
     add(|port| port.parameters[3] = 1);
+    add(|port| port.marks = 1);
+    add(|port| port.marks = 1 << 24);
     slots
 }
 
@@ -86,13 +89,14 @@ fn valid_multiplexers() {
     used.port.waiting = 0x1E;
     used.port.gathered = 1;
     used.port.parameters[0] = 0xFF;
+    used.port.marks = lines(5, 7);
     assert!(pair(3, used, 1, slot(8, 13, 5, 14, 7)).valid());
 }
 
 #[test]
 fn open_slots_have_valid_ports() {
     for place in 0..4 {
-        for fault in 0..6 {
+        for fault in 0..7 {
             let mut broken = slot(7, 10, 5, 12, 7);
             let port = &mut broken.port;
             match fault {
@@ -101,7 +105,8 @@ fn open_slots_have_valid_ports() {
                 2 => port.state.cursor.line = 4,
                 3 => port.has_saved = true,
                 4 => port.waiting = 0x07,
-                _ => port.parameters[0] = 1,
+                5 => port.parameters[0] = 1,
+                _ => port.marks = 1 << 8,
             }
             assert!(!only(place, broken).valid(), "place {}, fault {}", place, fault);
         }
@@ -181,8 +186,8 @@ fn panes_count_and_not_the_viewports() {
 
 #[test]
 fn free_slots_hold_zero() {
-    // 4 of home, 13 of the state, 13 of the save, and 7 more.
-    assert_eq!(changed_fields(free()).len(), 37);
+    // 4 of home, 13 of the state, 13 of the save, 7 more, and 2 of the marks.
+    assert_eq!(changed_fields(free()).len(), 39);
     for place in 0..4 {
         for slot in changed_fields(free()) {
             assert!(!only(place, slot).valid(), "place {}, {:?}", place, slot);

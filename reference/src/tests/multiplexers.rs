@@ -1,7 +1,7 @@
 //! Fresh multiplexers, opening and closing. The other tests of multiplexers
 //! start from the slots and screens made here.
 
-use super::{patterned, rectangle};
+use super::{lines, patterned, rectangle};
 use crate::multiplexer::{close, open, write, Multiplexer, Slot};
 use crate::port::{Cursor, Flags, Port, Rectangle, State};
 
@@ -22,12 +22,13 @@ pub fn free() -> Slot {
         waiting: 0,
         gathered: 0,
         parameters: [0, 0, 0, 0],
+        marks: 0,
     };
     Slot { client: 0, port }
 }
 
-/// A slot just opened: pane, viewport, cursor and flags spelled out, all
-/// else as in a free one.
+/// A slot just opened, its marks already taken: pane, viewport, cursor and
+/// flags spelled out, all else as in a free one.
 pub fn slot(client: u8, left: u8, top: u8, right: u8, bottom: u8) -> Slot {
     let mut slot = free();
     slot.client = client;
@@ -70,10 +71,11 @@ pub fn check_cells(got: &[u8], wanted: &[u8]) {
 }
 
 /// An opening that is done: the slot at `place` is the new one, the pane
-/// is blank, and nothing else has changed.
+/// is blank and its lines are marked, and nothing else has changed.
 fn check_open(start: Multiplexer, client: u8, pane: Rectangle, place: usize) -> Multiplexer {
     let mut end = start;
     end.slots[place] = slot(client, pane.left, pane.top, pane.right, pane.bottom);
+    end.slots[place].port.marks = lines(pane.top, pane.bottom);
     let mut screen = patterned();
     assert_eq!(open(start, &mut screen, client, pane), (0, end, 0));
     check_cells(&screen, &blanked(patterned(), pane));
@@ -220,6 +222,7 @@ fn closing_sets_every_field_to_zero() {
         port.waiting = 0x02;
         port.gathered = 3;
         port.parameters = [1, 2, 3, 0];
+        port.marks = lines(port.home.top, port.home.bottom);
         assert!(start.valid());
         let mut end = start;
         end.slots[place] = free();

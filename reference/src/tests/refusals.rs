@@ -1,6 +1,6 @@
 //! Statuses 1, 2, 9 and 10: exactly when, in which order, nothing changed.
 
-use super::{patterned, small};
+use super::{lines, patterned, small};
 use crate::block::{block_restore, block_return};
 use crate::console::{write, write_byte};
 use crate::port::Port;
@@ -10,6 +10,11 @@ fn invalid() -> Port {
     let mut port = small().port;
     port.state.cursor.column = 13;
     port
+}
+
+/// The small port with a mark on no screen line.
+fn marked_outside() -> Port {
+    Port { marks: 1 << 24, ..small().port }
 }
 
 /// A port whose viewport is crossed, so it has no width or height.
@@ -56,7 +61,7 @@ fn screen_of_another_length_is_1() {
     for size in [0, 1, 1919, 1921, 3840] {
         let screen = vec![0x41; size];
         // The port is valid, then not; 1 comes before 2.
-        for port in [small().port, invalid(), crossed()] {
+        for port in [small().port, invalid(), crossed(), marked_outside()] {
             check_write(port, &screen, b"A\x07\x0C", 1);
             check_write(port, &screen, b"", 1);
             check_write_byte(port, &screen, 0x07, 1);
@@ -71,7 +76,7 @@ fn screen_of_another_length_is_1() {
 
 #[test]
 fn invalid_port_is_2() {
-    for port in [invalid(), crossed()] {
+    for port in [invalid(), crossed(), marked_outside()] {
         check_write(port, &patterned(), b"A\x07\x0C", 2);
         check_write(port, &patterned(), b"", 2);
         check_write_byte(port, &patterned(), 0x07, 2);
@@ -123,7 +128,7 @@ fn width_and_height_swapped_is_10() {
     check_restore(port, &small().screen, &[2, 3, 1, 2, 3, 4, 5, 6], 10);
     let mut screen = small().screen;
     let answer = block_restore(port, &mut screen, &[3, 2, 1, 2, 3, 4, 5, 6]);
-    assert_eq!(answer, (0, port, 0));
+    assert_eq!(answer, (0, Port { marks: lines(5, 6), ..port }, 0));
 }
 
 #[test]

@@ -1,6 +1,6 @@
 //! Each clause of a port's validity, broken once.
 
-use super::{rectangle, small};
+use super::{lines, rectangle, small};
 use crate::port::{Cursor, Flags, Port, Rectangle, State};
 
 /// A valid port whose home leaves room on every side of the viewport.
@@ -163,6 +163,33 @@ fn places_not_gathered_hold_zero() {
             let mut port = Port { waiting, gathered, ..port() };
             port.parameters[place] = 7;
             assert_eq!(port.valid(), place < gathered as usize, "{:02X} {}", waiting, place);
+        }
+    }
+}
+
+#[test]
+fn marks_are_on_lines_of_home() {
+    // Home has lines 3 to 9, the viewport 5 to 7; the last eight bits are
+    // no screen line's.
+    for bit in 0..32 {
+        let port = Port { marks: 1 << bit, ..port() };
+        assert_eq!(port.valid(), (3..=9).contains(&bit), "bit {}", bit);
+        // A mark inside home does not make up for one outside.
+        let port = Port { marks: 1 << bit | 1 << 6, ..port };
+        assert_eq!(port.valid(), (3..=9).contains(&bit), "bit {} and 6", bit);
+        let whole = Port { marks: 1 << bit, ..Port::fresh() };
+        assert_eq!(whole.valid(), bit < 24, "bit {}, whole screen", bit);
+    }
+    assert!(Port { marks: lines(3, 9), ..port() }.valid());
+    assert!(Port { marks: lines(0, 23), ..Port::fresh() }.valid());
+    assert!(!Port { marks: u32::MAX, ..Port::fresh() }.valid());
+}
+
+#[test]
+fn marks_do_not_mend_a_home_that_is_not_legal() {
+    for home in [rectangle(0, 0, 79, 24), rectangle(0, 0, 255, 255), rectangle(5, 200, 6, 201)] {
+        for marks in [0, 1, 1 << 24, u32::MAX] {
+            assert!(!Port { marks, ..Port::fresh_in(home) }.valid(), "{:?}, {}", home, marks);
         }
     }
 }

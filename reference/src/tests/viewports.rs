@@ -157,7 +157,7 @@ fn save_change_and_restore() {
     let start = fresh_in(HOME).but(|c| c.port.state = earlier());
     let bytes = [0x01, 0x02, 0x34, 0x28, 0x39, 0x2C, 0x15, 0x00, 0x0F, 0x41, 0x04];
     let end = start.but(|c| {
-        c.store(20, 8, 0x01);
+        c.store(20, 8, 0x01).mark(8, 8);
         c.port.has_saved = true;
         c.port.saved = earlier();
     });

@@ -4,7 +4,7 @@ use crate::difference::brief_hex;
 use crate::port::Rectangle;
 use std::fmt;
 
-/// A kind of call with its arguments; the last three lend bytes.
+/// A kind of call with its arguments; the three after `Close` lend bytes.
 #[derive(Clone)]
 pub enum Action {
     Open(Rectangle),
@@ -12,6 +12,8 @@ pub enum Action {
     Write(Vec<u8>),
     Return(Vec<u8>),
     Restore(Vec<u8>),
+    /// Takes the marks.
+    Take,
 }
 
 #[derive(Clone)]
@@ -21,7 +23,7 @@ pub struct Call {
 }
 
 /// The kinds, each at its number in a script.
-pub const KINDS: [&str; 5] = ["open", "close", "write", "return", "restore"];
+pub const KINDS: [&str; 6] = ["open", "close", "write", "return", "restore", "take"];
 
 impl Call {
     pub fn kind(&self) -> usize {
@@ -31,6 +33,7 @@ impl Call {
             Action::Write(_) => 2,
             Action::Return(_) => 3,
             Action::Restore(_) => 4,
+            Action::Take => 5,
         }
     }
 
@@ -40,7 +43,7 @@ impl Call {
             Action::Open(pane) => {
                 bytes.extend_from_slice(&[pane.left, pane.top, pane.right, pane.bottom])
             }
-            Action::Close => {}
+            Action::Close | Action::Take => {}
             Action::Write(lent) | Action::Return(lent) | Action::Restore(lent) => {
                 let length = u16::try_from(lent.len()).expect("a length has two bytes");
                 bytes.extend_from_slice(&length.to_le_bytes());
@@ -50,12 +53,11 @@ impl Call {
         bytes
     }
 
-    /// How many bytes of its answer come back before the cells: status,
-    /// count, and the block lent for a return.
-    pub fn answer_head(&self) -> usize {
+    /// How many bytes of its answer are the block lent for a return.
+    pub fn returned_length(&self) -> usize {
         match &self.action {
-            Action::Return(block) => 5 + block.len(),
-            _ => 5,
+            Action::Return(block) => block.len(),
+            _ => 0,
         }
     }
 }
@@ -67,7 +69,7 @@ impl fmt::Display for Call {
             Action::Open(pane) => {
                 write!(to, ", pane {} {} {} {}", pane.left, pane.top, pane.right, pane.bottom)
             }
-            Action::Close => Ok(()),
+            Action::Close | Action::Take => Ok(()),
             Action::Write(lent) | Action::Return(lent) | Action::Restore(lent) => {
                 write!(to, ", {} bytes: {}", lent.len(), brief_hex(lent))
             }

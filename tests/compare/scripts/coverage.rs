@@ -1,52 +1,71 @@
 //! What random runs have reached, and what they should have but have not.
 
 use super::call::{Action, KINDS};
-use super::model::{port, Model};
+use super::codes::Codes;
+use super::model::{place, Model};
+use super::moment::Moment;
 use super::refusals::{refusals, REACHABLE, TOGETHER};
 use super::run::Run;
-use super::situations::{Moment, Situations};
-use crate::port::{parameters_needed, Port};
+use super::situations::Situations;
+use crate::lines::{differing, in_words};
 
 /// How often each was reached.
 #[derive(Default)]
 pub struct Coverage {
     /// By kind and status.
-    statuses: [[u64; 11]; 5],
+    statuses: [[u64; 11]; 6],
     /// By kind and two refusals that apply at once, the smaller first.
-    together: [[[u64; 11]; 11]; 5],
-    /// Control codes executed by clients.
-    codes: [u64; 32],
+    together: [[[u64; 11]; 11]; 6],
+    codes: Codes,
     situations: Situations,
 }
 
 impl Coverage {
     /// Makes a run's calls on the reference's multiplexer and notes what
     /// they reach. Tells in words where the reference does not give the
-    /// smallest refusal that applies.
+    /// smallest refusal that applies, or leaves out a mark.
     pub fn follow(&mut self, run: &Run) -> Result<(), String> {
         let mut model = Model::new(run.screen.clone());
         let mut before = None;
         let mut returned = None;
+        let mut left = [0; 4];
         for call in run.served() {
             let multiplexer = model.multiplexer;
-            let applying = refusals(call, &multiplexer, run.screen.len());
+            let screen = &model.screen.clone();
             let (status, block) = model.make(call);
-            let smallest = applying.first().copied().unwrap_or(0);
-            if status != smallest {
-                return Err(format!("status {} and not {} for {}", status, smallest, call));
-            }
-            self.note_statuses(call.kind(), status, &applying);
-            let port = port(&multiplexer, call.client);
-            if let (Action::Write(bytes), Some(port)) = (&call.action, port) {
-                self.note_codes(port, bytes);
-            }
-            let moment = Moment { call, status, multiplexer, before, returned: &returned };
-            self.situations.see(&moment);
+            self.see(&Moment {
+                call,
+                status,
+                multiplexer,
+                screen,
+                before,
+                returned: &returned,
+                left,
+                after: model.multiplexer,
+                changed: differing(screen, &model.screen),
+            })?;
             before = Some((call, status));
-            if let (Action::Return(_), 0) = (&call.action, status) {
-                returned = Some((call.client, block));
+            match (&call.action, place(&multiplexer, call.client)) {
+                (Action::Return(_), _) if status == 0 => returned = Some((call.client, block)),
+                (Action::Close, Some(place)) => left[place] = multiplexer.slots[place].port.marks,
+                _ => {}
             }
         }
+        Ok(())
+    }
+
+    fn see(&mut self, now: &Moment) -> Result<(), String> {
+        let applying = refusals(now.call, &now.multiplexer, now.screen.len());
+        let smallest = applying.first().copied().unwrap_or(0);
+        if now.status != smallest {
+            return Err(format!("status {} and not {} for {}", now.status, smallest, now.call));
+        }
+        check_marks(now)?;
+        self.note_statuses(now.call.kind(), now.status, &applying);
+        if let (Action::Write(bytes), Some(port)) = (&now.call.action, now.port()) {
+            self.codes.follow(port, now.screen, bytes);
+        }
+        self.situations.see(now);
         Ok(())
     }
 
@@ -55,23 +74,6 @@ impl Coverage {
         for (place, &smaller) in applying.iter().enumerate() {
             for &larger in &applying[place + 1..] {
                 self.together[kind][smaller as usize][larger as usize] += 1;
-            }
-        }
-    }
-
-    /// A code counts once it has all of its parameters.
-    fn note_codes(&mut self, port: &Port, bytes: &[u8]) {
-        let mut code = port.waiting;
-        let mut missing = parameters_needed(code) - port.gathered;
-        for &byte in bytes {
-            if missing > 0 {
-                missing -= 1;
-            } else {
-                code = byte;
-                missing = parameters_needed(code);
-            }
-            if missing == 0 && code < 0x20 {
-                self.codes[code as usize] += 1;
             }
         }
     }
@@ -105,12 +107,17 @@ impl Coverage {
                 }
             }
         }
-        for (code, &times) in self.codes.iter().enumerate() {
-            if times == 0 {
-                missing.push(format!("write: code ${:02X}", code));
-            }
-        }
+        missing.extend(self.codes.missing());
         missing.extend(self.situations.missing());
         missing
     }
+}
+
+/// Each line on which a cell changed must be marked.
+fn check_marks(now: &Moment) -> Result<(), String> {
+    let unmarked = now.changed & !now.port_after().map_or(0, |port| port.marks);
+    if unmarked == 0 {
+        return Ok(());
+    }
+    Err(format!("no mark of lines {}, which changed, for {}", in_words(unmarked), now.call))
 }

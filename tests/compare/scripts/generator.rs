@@ -19,7 +19,7 @@ pub struct Generator {
     /// Numbers for clients, all different: few, so that one that was
     /// closed is soon opened again.
     names: [u8; 6],
-    model: Model,
+    pub model: Model,
     calls: Vec<Call>,
     /// What is still to be written of a stream that was cut, by client.
     pub rests: BTreeMap<u8, Vec<u8>>,
@@ -69,10 +69,11 @@ impl Generator {
             return;
         }
         let client = self.any_client();
-        match self.builder.rng.below(14) {
-            0 => self.make(client, Action::Close),
+        match self.builder.rng.below(17) {
+            0 => self.close(client),
             1..=3 => self.block_return(client),
             4..=6 => self.block_restore(client),
+            7..=9 => self.take(client),
             _ => self.write(client),
         }
     }
@@ -103,6 +104,7 @@ impl Generator {
         };
         let pane = pane(&mut self.builder.rng, &panes(&self.model.multiplexer));
         self.make(client, Action::Open(pane));
+        self.take_after_opening(client);
     }
 
     fn write(&mut self, client: u8) {
@@ -135,7 +137,7 @@ impl Generator {
         }
     }
 
-    fn make(&mut self, client: u8, action: Action) {
+    pub fn make(&mut self, client: u8, action: Action) {
         let call = Call { client, action };
         let (status, block) = self.model.make(&call);
         if call.kind() == 3 && status == 0 {

@@ -2,7 +2,7 @@
 //! lent screen.
 
 use super::call::{Action, Call};
-use crate::multiplexer::{self, Multiplexer, Slot};
+use crate::multiplexer::{self, Multiplexer};
 use crate::port::{Port, Rectangle};
 
 pub struct Model {
@@ -29,6 +29,10 @@ impl Model {
                 multiplexer::block_return(multiplexer, screen, client, &mut block)
             }
             Action::Restore(lent) => multiplexer::block_restore(multiplexer, screen, client, lent),
+            Action::Take => {
+                let (status, after, _, count) = multiplexer::take_marks(multiplexer, client);
+                (status, after, count)
+            }
         };
         self.multiplexer = after;
         block.truncate(count);
@@ -46,8 +50,12 @@ pub fn panes(multiplexer: &Multiplexer) -> Vec<Rectangle> {
     multiplexer.slots.iter().filter(|slot| slot.client != 0).map(|slot| slot.port.home).collect()
 }
 
-/// The port of an open client; 0 never has one.
+/// Which slot is an open client's; 0 never has one.
+pub fn place(multiplexer: &Multiplexer, client: u8) -> Option<usize> {
+    multiplexer.slots.iter().position(|slot| slot.client != 0 && slot.client == client)
+}
+
+/// The port of an open client.
 pub fn port(multiplexer: &Multiplexer, client: u8) -> Option<&Port> {
-    let open = |slot: &&Slot| slot.client != 0 && slot.client == client;
-    multiplexer.slots.iter().find(open).map(|slot| &slot.port)
+    place(multiplexer, client).map(|place| &multiplexer.slots[place].port)
 }

@@ -1,7 +1,9 @@
 //! In words, where the library's outcome of a run is not the reference's.
 
-use super::call::{Call, KINDS};
+use super::answer::Answer;
+use super::call::KINDS;
 use super::run::{Outcome, Run};
+use crate::lines::in_words;
 
 /// None if both are the same. Otherwise all that is wrong with the first
 /// call that is answered differently; if none is, what else is wrong.
@@ -9,49 +11,49 @@ pub fn difference(run: &Run, wanted: &Outcome, given: &Outcome) -> Option<String
     if wanted == given {
         return None;
     }
-    let mut start = 0;
+    let (wanted_answers, given_answers) = (run.answers(wanted), run.answers(given));
     for (place, call) in run.served().iter().enumerate() {
-        let end = start + run.answer_length(call);
-        let faults = if given.length < end {
-            vec![format!("it is not answered: {} bytes of answers came back", given.length)]
-        } else {
-            answer_faults(call, &wanted.answers[start..end], &given.answers[start..end])
+        let faults = match given_answers.get(place) {
+            Some(answer) => answer_faults(&wanted_answers[place], answer),
+            None => {
+                vec![format!("it is not answered: {} bytes of answers came back", given.length)]
+            }
         };
         if !faults.is_empty() {
             let name =
                 format!("call {} ({}, client {})", place + 1, KINDS[call.kind()], call.client);
             return Some(format!("{}: {}", name, faults.join("; ")));
         }
-        start = end;
     }
     Some(other_fault(wanted, given))
 }
 
-/// What is wrong with one answer: status, count, block and cells.
-fn answer_faults(call: &Call, wanted: &[u8], given: &[u8]) -> Vec<String> {
-    let head = call.answer_head();
+/// What is wrong with each part of one answer.
+fn answer_faults(wanted: &Answer, given: &Answer) -> Vec<String> {
     let mut faults = Vec::new();
-    if wanted[0] != given[0] {
-        faults.push(format!("status {} instead of {}", given[0], wanted[0]));
+    if wanted.status != given.status {
+        faults.push(format!("status {} instead of {}", given.status, wanted.status));
     }
-    let (wanted_count, given_count) = (count(wanted), count(given));
-    if wanted_count != given_count {
-        faults.push(format!("count {} instead of {}", given_count, wanted_count));
+    if wanted.count != given.count {
+        faults.push(format!("count {} instead of {}", given.count, wanted.count));
     }
-    let block = byte_fault(&wanted[5..head], &given[5..head], |place| {
+    faults.extend(marks_fault("returned", wanted.marks, given.marks));
+    faults.extend(byte_fault(wanted.block, given.block, |place| {
         format!("byte {} of the block", place)
-    });
-    let cells = byte_fault(&wanted[head..], &given[head..], cell_name);
-    faults.extend(block);
-    faults.extend(cells);
+    }));
+    for (slot, (&wanted, given)) in wanted.held.iter().zip(given.held).enumerate() {
+        faults.extend(marks_fault(&format!("held in slot {}", slot), wanted, given));
+    }
+    faults.extend(byte_fault(wanted.cells, given.cells, cell_name));
     faults
 }
 
-fn count(answer: &[u8]) -> u32 {
-    u32::from_le_bytes([answer[1], answer[2], answer[3], answer[4]])
+fn marks_fault(how: &str, wanted: u32, given: u32) -> Option<String> {
+    let (wanted, given) = (in_words(wanted), in_words(given));
+    (wanted != given).then(|| format!("marked lines {}: {} instead of {}", how, given, wanted))
 }
 
-fn cell_name(place: usize) -> String {
+pub fn cell_name(place: usize) -> String {
     format!("cell ({}, {})", place % 80, place / 80)
 }
 

@@ -12,17 +12,18 @@ use crate::multiplexer::Multiplexer;
 use crate::port::{Port, SCREEN_SIZE};
 
 /// The statuses that a script can reach, by kind of call.
-pub const REACHABLE: [&[u8]; 5] =
-    [&[0, 1, 3, 4, 5, 6, 7], &[0, 8], &[0, 1, 8], &[0, 1, 8, 9], &[0, 1, 8, 10]];
+pub const REACHABLE: [&[u8]; 6] =
+    [&[0, 1, 3, 4, 5, 6, 7], &[0, 8], &[0, 1, 8], &[0, 1, 8, 9], &[0, 1, 8, 10], &[0, 8]];
 
 /// The refusals that a script can make apply at once, by kind of call.
 /// Client 0 is never open. On a screen that is refused nothing is open.
-pub const TOGETHER: [&[(u8, u8)]; 5] = [
+pub const TOGETHER: [&[(u8, u8)]; 6] = [
     &[(1, 3), (1, 4), (3, 4), (3, 6), (3, 7), (4, 5), (4, 6), (4, 7), (5, 6), (5, 7), (6, 7)],
     &[],
     &[(1, 8)],
     &[(1, 8), (1, 9), (8, 9)],
     &[(1, 8), (1, 10), (8, 10)],
+    &[],
 ];
 
 /// All that apply, the smallest first, which is the one to be given.
@@ -39,7 +40,7 @@ pub fn refusals(call: &Call, multiplexer: &Multiplexer, screen_length: usize) ->
             (6, panes(multiplexer).iter().any(|&other| share_a_cell(*pane, other))),
             (7, clients(multiplexer).len() == 4),
         ],
-        Action::Close => vec![not_open],
+        Action::Close | Action::Take => vec![not_open],
         Action::Write(_) => vec![screen, not_open],
         Action::Return(block) => vec![screen, not_open, (9, too_short(block, port))],
         Action::Restore(block) => vec![screen, not_open, (10, unfit(block, port))],

@@ -1,6 +1,7 @@
 //! A run of calls on a fresh multiplexer: what is lent to it, and what
 //! the reference and the library make of it.
 
+use super::answer::{self, Answer};
 use super::call::Call;
 use crate::library;
 use crate::script::run_script;
@@ -37,7 +38,7 @@ impl Run {
     }
 
     pub fn answer_length(&self, call: &Call) -> usize {
-        call.answer_head() + self.screen.len()
+        answer::length(call, self.screen.len())
     }
 
     /// How many bytes are lent for the answers.
@@ -58,6 +59,21 @@ impl Run {
             room -= length;
         }
         &self.calls
+    }
+
+    /// The answers of an outcome, call by call, as many as came back whole.
+    pub fn answers<'a>(&self, outcome: &'a Outcome) -> Vec<Answer<'a>> {
+        let mut answers = Vec::new();
+        let mut start = 0;
+        for call in self.served() {
+            let end = start + self.answer_length(call);
+            if outcome.length < end {
+                break;
+            }
+            answers.push(Answer::new(call, &outcome.answers[start..end]));
+            start = end;
+        }
+        answers
     }
 
     /// The reference has all the room that it needs, so it is handed only
@@ -81,5 +97,5 @@ impl Run {
 }
 
 fn calls_script(calls: &[Call]) -> Vec<u8> {
-    calls.iter().flat_map(Call::bytes).collect()
+    calls.iter().map(Call::bytes).collect::<Vec<_>>().concat()
 }

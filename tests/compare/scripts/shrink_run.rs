@@ -34,7 +34,7 @@ pub fn shrink_run(run: &Run, shows: impl Fn(&Run) -> bool) -> Run {
 /// The same run with fewer bytes lent to the call at this place.
 fn with_less_lent(run: &Run, place: usize, shows: &impl Fn(&Run) -> bool) -> Run {
     let (lent, action): (&[u8], fn(Vec<u8>) -> Action) = match &run.calls[place].action {
-        Action::Open(_) | Action::Close => return run.clone(),
+        Action::Open(_) | Action::Close | Action::Take => return run.clone(),
         Action::Write(lent) => (lent, Action::Write),
         Action::Return(lent) => (lent, Action::Return),
         Action::Restore(lent) => (lent, Action::Restore),

@@ -2,27 +2,18 @@
 
 use super::blocks::{dimensions, length};
 use super::call::{Action, Call};
-use super::model::{panes, port};
-use crate::multiplexer::Multiplexer;
+use super::model::panes;
+use super::moment::Moment;
 use crate::port::{Port, Rectangle, WHOLE_SCREEN};
 use std::collections::BTreeMap;
-
-/// A call, its status, and what was there before it.
-pub struct Moment<'a> {
-    pub call: &'a Call,
-    pub status: u8,
-    pub multiplexer: Multiplexer,
-    /// The call before, and its status.
-    pub before: Option<(&'a Call, u8)>,
-    /// The last block that was returned, and to which client.
-    pub returned: &'a Option<(u8, Vec<u8>)>,
-}
 
 /// How often each situation was met. A kind's situations are known from
 /// its first call on.
 #[derive(Default)]
 pub struct Situations {
     met: BTreeMap<&'static str, u64>,
+    /// Takings that returned the mark of one line alone, by line.
+    pub alone: [u64; 24],
 }
 
 impl Situations {
@@ -37,17 +28,20 @@ impl Situations {
     }
 
     pub fn missing(&self) -> Vec<String> {
-        self.met.iter().filter(|(_, &times)| times == 0).map(|(name, _)| name.to_string()).collect()
+        let met = self.met.iter().map(|(name, &times)| (name.to_string(), times));
+        let alone = self.alone.iter().enumerate();
+        let alone = alone.map(|(line, &times)| (format!("take: line {} alone", line), times));
+        met.chain(alone).filter(|(_, times)| *times == 0).map(|(name, _)| name).collect()
     }
 
-    fn note(&mut self, name: &'static str, met: bool) {
+    pub fn note(&mut self, name: &'static str, met: bool) {
         *self.met.entry(name).or_insert(0) += met as u64;
     }
 
     pub fn see(&mut self, now: &Moment) {
+        self.see_marks(now);
         let zero = now.call.client == 0;
-        let port = port(&now.multiplexer, now.call.client);
-        match (&now.call.action, port) {
+        match (&now.call.action, now.port()) {
             (Action::Open(pane), _) => {
                 self.note("open: client 0", zero);
                 self.see_open(now, *pane);
@@ -60,6 +54,7 @@ impl Situations {
             (Action::Write(_), None) => self.note("write: client 0", zero),
             (Action::Return(_), None) => self.note("return: client 0", zero),
             (Action::Restore(_), None) => self.note("restore: client 0", zero),
+            (Action::Take, _) => {}
         }
     }
 

@@ -1,7 +1,7 @@
 //! What surrounds the calls of a random run: the lent screen, the end of
 //! the script, and the room for answers.
 
-use super::call::Call;
+use super::call::{Call, KINDS};
 use crate::edges::OTHER_LENGTHS;
 use crate::port::{BLANK, SCREEN_SIZE};
 use crate::rng::Rng;
@@ -33,8 +33,9 @@ pub fn ending(rng: &mut Rng, calls: &[Call]) -> (Vec<u8>, isize) {
             (call, ROOM_FOR_MORE)
         }
         1 => {
-            let any = rng.between(5, 255);
-            let unknown = rng.pick(&[5, 255, any]);
+            let first = KINDS.len() as u8;
+            let any = rng.between(first, 255);
+            let unknown = rng.pick(&[first, 255, any]);
             let call = any_of(rng, calls);
             ([&[unknown, call[1]], &call[..]].concat(), ROOM_FOR_MORE)
         }

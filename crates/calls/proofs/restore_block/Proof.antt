@@ -10,6 +10,12 @@ block-fits-requires c κs = search needs
 copy-in-requires : tie.Need-copy-in-requires
 copy-in-requires c κs = search (fit-length, needs)
 
+mark-requires : tie.Need-mark-requires
+mark-requires c κs = search needs
+
+with-marks-requires : tie.Need-with-marks-requires
+with-marks-requires c κs = search needs
+
 answer-of-requires : tie.Need-answer-of-requires
 answer-of-requires c κs = search needs
 
@@ -31,6 +37,8 @@ restore-block-spec =
     (tie.spec
     block-fits-requires
     copy-in-requires
+    mark-requires
+    with-marks-requires
     answer-of-requires
     same-length
     returns

@@ -50,20 +50,20 @@ space-count-requires c κs = search needs
 print-spaces-requires : tie.Need-print-spaces-requires
 print-spaces-requires c κs = search (spaces-on-screen, stored-as, needs)
 
-with-view-requires-3 : tie.Need-with-view-requires-3
-with-view-requires-3 c κs = search needs
+with-drawn-requires : tie.Need-with-drawn-requires
+with-drawn-requires c κs = search needs
 
 set-horizontal-requires : tie.Need-set-horizontal-requires
 set-horizontal-requires c κs = search needs
 
-with-view-requires-4 : tie.Need-with-view-requires-4
-with-view-requires-4 c κs = search needs
+with-view-requires-3 : tie.Need-with-view-requires-3
+with-view-requires-3 c κs = search needs
 
 set-cursor-movement-requires : tie.Need-set-cursor-movement-requires
 set-cursor-movement-requires c κs = search needs
 
-with-view-requires-5 : tie.Need-with-view-requires-5
-with-view-requires-5 c κs = search needs
+with-view-requires-4 : tie.Need-with-view-requires-4
+with-view-requires-4 c κs = search needs
 
 array-read-goto-xy : tie.Need-array-read-goto-xy
 array-read-goto-xy c = search needs
@@ -71,8 +71,8 @@ array-read-goto-xy c = search needs
 goto-xy-requires : tie.Need-goto-xy-requires
 goto-xy-requires c κs = search needs
 
-with-view-requires-6 : tie.Need-with-view-requires-6
-with-view-requires-6 c κs = search needs
+with-view-requires-5 : tie.Need-with-view-requires-5
+with-view-requires-5 c κs = search needs
 
 returns : tie.Need-returns
 unfolding perform
@@ -128,14 +128,14 @@ perform-spec =
     stored-byte-requires
     space-count-requires
     print-spaces-requires
-    with-view-requires-3
+    with-drawn-requires
     set-horizontal-requires
-    with-view-requires-4
+    with-view-requires-3
     set-cursor-movement-requires
-    with-view-requires-5
+    with-view-requires-4
     array-read-goto-xy
     goto-xy-requires
-    with-view-requires-6
+    with-view-requires-5
     returns
     same-length
     returns-2

@@ -18,8 +18,8 @@ stored-alone-requires c κs = search needs
 print-byte-requires : tie.Need-print-byte-requires
 print-byte-requires c κs = search (byte-on-screen, placed-view, needs)
 
-with-view-requires : tie.Need-with-view-requires
-with-view-requires c κs = search needs
+with-drawn-requires : tie.Need-with-drawn-requires
+with-drawn-requires c κs = search needs
 
 same-length : tie.Need-same-length
 same-length c = search needs
@@ -47,7 +47,7 @@ execute-byte-spec =
     mode-of-requires
     stored-alone-requires
     print-byte-requires
-    with-view-requires
+    with-drawn-requires
     same-length
     returns
     slice-aggregate-execute-stream

@@ -38,8 +38,8 @@ print-codes-requires c κs =
     let printed = is-printed (at .active .waiting) b _ (c .before .before .before .prints .ensures) (c .before .before .if1 .taken) in
     (placed-view (withActive (at .port) (at .active)) (at .inv .0 .valid), at .inv .1, c .before .before .before .before .before .loop-test .taken, printed .1, at .inv .0 .long)
 
-with-view-requires : tie.Need-with-view-requires Inv-loop μ-loop
-with-view-requires c κs = search needs
+with-drawn-requires : tie.Need-with-drawn-requires Inv-loop μ-loop
+with-drawn-requires c κs = search needs
 
 add-i : tie.Need-add-i Inv-loop μ-loop
 add-i c = let fits = c .before .before .before .before .before .before .before .before .before .before .before .before .before .before .before .before .before .good .1 .1 in search needs
@@ -53,8 +53,8 @@ loop-again c =
     let b = getD (c .before .before .before .before .before .before .before .before .before .before .before .before .before .before .before .before .before .args .bytes .now) (at .i) 0 in
     let done = c .before .before .before .before .print-codes .ensures in
     let none = printed-waits (at .active .waiting) b _ (c .before .before .before .before .before .before .before .before .prints .ensures) (c .before .before .before .before .before .before .before .if1 .taken) in (
-      after-printing (at .port) (at .active) (at .inv .0) _ _ _ (done .2) (done .1) none
-          (c .before .with-view .ensures),
+      after-printing (at .port) (at .active) (at .inv .0) _ _ _ _ (done .2) (done .1) none
+          (c .before .with-drawn .ensures),
       at .inv .1,
       at .inv .2,
     )
@@ -142,7 +142,7 @@ execute-stream-spec =
     shared-slice-read-b
     prints-requires
     print-codes-requires
-    with-view-requires
+    with-drawn-requires
     add-i
     loop-less
     loop-again

@@ -1,6 +1,6 @@
 -- `multiplexer::close` meets its contract: refused, or the slot becomes a free one. Assumes nothing.
 use borrow.Author.Needs.{needs}
-use Rattle.multiplexer.proofs.Replying.{close-place, replies-refused, close-done-by}
+use Rattle.multiplexer.proofs.Replying.{client-place, replies-refused, close-done-by}
 use Rattle.multiplexer.proofs.close.Statement.{statement}
 use Rattle.multiplexer.proofs.close.Tie as tie
 
@@ -23,7 +23,7 @@ new-slot-requires : tie.Need-new-slot-requires
 new-slot-requires c κs = search needs
 
 with-slot-requires : tie.Need-with-slot-requires
-with-slot-requires c κs = search (close-place, needs)
+with-slot-requires c κs = search (client-place, needs)
 
 answer-of-requires-2 : tie.Need-answer-of-requires-2
 answer-of-requires-2 c κs = search needs

@@ -22,11 +22,8 @@ enum-known-located-2 c = search needs
 clear-requires : tie.Need-clear-requires
 clear-requires c κs = search (openings, needs)
 
-fresh-port-requires : tie.Need-fresh-port-requires
-fresh-port-requires c κs = search needs
-
-new-slot-requires : tie.Need-new-slot-requires
-new-slot-requires c κs = search needs
+fresh-slot-requires : tie.Need-fresh-slot-requires
+fresh-slot-requires c κs = search (openings, needs)
 
 with-slot-requires : tie.Need-with-slot-requires
 with-slot-requires c κs = search (openings, needs)
@@ -41,10 +38,7 @@ same-length : tie.Need-same-length
 same-length c = search needs
 
 returns-2 : tie.Need-returns-2
-returns-2 c =
-    let on = c .before .before .before .before .before .before .before .before .before .before .before .located-on .ensures in
-    let claim = c .before .before .before .before .before .before .before .before .before .before .before .before .claim-slot .ensures in
-    search open-done-by
+returns-2 c = search open-done-by
 
 pub open-spec : {M : Type 1} → statement M
 open-spec =
@@ -56,8 +50,7 @@ open-spec =
     answer-of-requires
     enum-known-located-2
     clear-requires
-    fresh-port-requires
-    new-slot-requires
+    fresh-slot-requires
     with-slot-requires
     answer-of-requires-2
     returns

@@ -1,7 +1,7 @@
 -- `printer::print_codes` meets its contract: a run, with the cursor after it, or one code. Assumes nothing.
 use borrow.Author.Needs.{needs}
 use Rattle.printer.proofs.Printing.{stored-as}
-use Rattle.printer.proofs.Codes.{byte-on-screen, printed-to, one-printed}
+use Rattle.printer.proofs.Codes.{byte-on-screen, line-on-screen, run-marked, one-printed}
 use Rattle.printer.proofs.print_codes.Statement.{statement}
 use Rattle.printer.proofs.print_codes.Tie as tie
 
@@ -17,11 +17,14 @@ add-cursor-at c = search needs
 cursor-at-requires : tie.Need-cursor-at-requires
 cursor-at-requires c κs = search needs
 
+mark-requires : tie.Need-mark-requires
+mark-requires c κs = search (line-on-screen, needs)
+
 same-length : tie.Need-same-length
 same-length c = search needs
 
 returns : tie.Need-returns
-returns c = search (printed-to, needs)
+returns c = search (run-marked, needs)
 
 mode-of-requires : tie.Need-mode-of-requires
 mode-of-requires c κs = search needs
@@ -49,6 +52,7 @@ print-codes-spec =
     cast-cursor-at
     add-cursor-at
     cursor-at-requires
+    mark-requires
     same-length
     returns
     mode-of-requires

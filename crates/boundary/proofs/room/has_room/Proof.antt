@@ -10,21 +10,21 @@ use Rattle.laws.proofs.Tests.{below?}
 use Rattle.boundary.proofs.room.has_room.Statement.{statement}
 use Rattle.boundary.proofs.room.has_room.Tie as tie
 
-fits : (room lent cells : ℕ) → 5 ≤ room → lent ≤ room - 5 → leb cells (room - 5 - lent) ≡ leb (5 + lent + cells) room
-fits room lent cells head block =
-    ⊎-elim (λ short. lt-leb cells (room - 5 - lent) short ∙ sym (lt-leb (5 + lent + cells) room (omega arith)))
-    (λ enough. le-leb cells (room - 5 - lent) enough ∙ sym (le-leb (5 + lent + cells) room (omega arith)))
-    (below? (room - 5 - lent) cells)
+fits : (room lent cells : ℕ) → 25 ≤ room → lent ≤ room - 25 → leb cells (room - 25 - lent) ≡ leb (25 + lent + cells) room
+fits room lent cells numbers block =
+    ⊎-elim (λ short. lt-leb cells (room - 25 - lent) short ∙ sym (lt-leb (25 + lent + cells) room (omega arith)))
+    (λ enough. le-leb cells (room - 25 - lent) enough ∙ sym (le-leb (25 + lent + cells) room (omega arith)))
+    (below? (room - 25 - lent) cells)
 
--- no room for the head, or for the lent block after it
-no-head : (room lent cells : ℕ) → room < 5 → false ≡ leb (5 + lent + cells) room
-no-head room lent cells short = sym (lt-leb (5 + lent + cells) room (omega arith))
+-- no room for the numbers, or for the lent block beside them
+no-numbers : (room lent cells : ℕ) → room < 25 → false ≡ leb (25 + lent + cells) room
+no-numbers room lent cells short = sym (lt-leb (25 + lent + cells) room (omega arith))
 
-no-block : (room lent cells : ℕ) → 5 ≤ room → room - 5 < lent → false ≡ leb (5 + lent + cells) room
-no-block room lent cells head short = sym (lt-leb (5 + lent + cells) room (omega arith))
+no-block : (room lent cells : ℕ) → 25 ≤ room → room - 25 < lent → false ≡ leb (25 + lent + cells) room
+no-block room lent cells numbers short = sym (lt-leb (25 + lent + cells) room (omega arith))
 
 returns : tie.Need-returns
-returns c = search no-head
+returns c = search no-numbers
 
 returns-2 : tie.Need-returns-2
 returns-2 c = search no-block

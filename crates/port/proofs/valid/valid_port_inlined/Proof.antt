@@ -16,6 +16,9 @@ valid-saved-requires c κs = search needs
 valid-wait-requires : tie.Need-valid-wait-requires
 valid-wait-requires c κs = search needs
 
+within-lines-requires : tie.Need-within-lines-requires
+within-lines-requires c κs = search needs
+
 returns : tie.Need-returns
 unfolding validPort
 returns c = (cc)
@@ -23,4 +26,4 @@ returns c = (cc)
 pub valid-port-inlined-spec : {M : Type 1} → statement M
 valid-port-inlined-spec =
     tie.close
-    (tie.spec legal-requires valid-view-requires valid-saved-requires valid-wait-requires returns)
+    (tie.spec legal-requires valid-view-requires valid-saved-requires valid-wait-requires within-lines-requires returns)

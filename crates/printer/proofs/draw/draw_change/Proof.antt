@@ -1,4 +1,5 @@
 -- `printer::draw::draw_change` meets its contract: an edit or none, as a list of at most one. Assumes nothing.
+use native.Mathlib.Nat.{le-refl}
 use borrow.Author.Needs.{needs}
 use Rattle.printer.proofs.Draws.{drawings}
 use Rattle.printer.proofs.draw.draw_change.Statement.{statement}
@@ -13,6 +14,9 @@ enum-known-change c = search needs
 apply-requires : tie.Need-apply-requires
 apply-requires c κs = search (drawings, needs)
 
+mark-requires : tie.Need-mark-requires
+mark-requires c κs = search (drawings, le-refl)
+
 returns : tie.Need-returns
 returns c = search drawings
 
@@ -24,4 +28,4 @@ returns-2 c = search drawings
 
 pub draw-change-spec : {M : Type 1} → statement M
 draw-change-spec =
-    tie.close (tie.spec enum-told enum-known-change apply-requires returns same-length returns-2)
+    tie.close (tie.spec enum-told enum-known-change apply-requires mark-requires returns same-length returns-2)

@@ -1,0 +1,5 @@
+-- `Tracks`: what one call on a port marks. `Plain`: a plain console. `Clients`: a multiplexer. `Examples`: what bytes mark.
+pub mod Tracks
+pub mod Plain
+pub mod Clients
+pub mod Examples

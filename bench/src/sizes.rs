@@ -45,8 +45,8 @@ fn print_state(types: &Types, object: &Object) -> Result<(), String> {
             println!("\nNot confirmed: the object code copies no block of {} bytes.", multiplexer)
         }
         ref names => println!(
-            "\nConfirmed: the object code copies blocks of {} bytes, a multiplexer, in {}. With a \
-             gap anywhere in a port, a slot or a multiplexer it would be more.",
+            "\nConfirmed: the object code copies blocks of {} bytes, a multiplexer, in {}. With \
+             another gap in a port, a slot or a multiplexer it would be more.",
             multiplexer,
             names.join(", ")
         ),

@@ -1,5 +1,5 @@
 // Runs from Rust, for tests and benchmarks: a script of calls by client, a plain stream in pieces or byte after byte, or an input field's calls (`fields`). Scripts, streams and answers are bytes; a field's answers are numbers.
-// Of state only a field's length and cursor cross this boundary. What it assumes of its caller is outside the proofs: each pointer is good for its length, and lent slices do not overlap.
+// Of state only a field's length and cursor, and the marks of ports, cross this boundary. What it assumes of its caller is outside the proofs: each pointer is good for its length, and lent slices do not overlap.
 mod fields;
 mod room;
 mod script;

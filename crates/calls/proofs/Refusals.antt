@@ -1,4 +1,4 @@
--- A call that is refused with 9 or 10 changes nothing and counts 0; a taking of a valid port's marks is never refused. Assumes nothing.
+-- A call that is refused with 9 or 10 changes nothing and counts 0; a taking below its judging is never refused. Assumes nothing.
 use Prim.Native.Nat.{ℕ}
 use mathlib.Core.Path.{refl}
 use mathlib.Core.List.{List}

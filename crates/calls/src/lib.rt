@@ -1,4 +1,4 @@
-// The calls below their judging: what a write, a block return, a block restore and a taking of marks do to a valid port and a screen of 1,920 bytes. `console` and `multiplexer` judge a call and make it here; the one refusal that both have, of a screen, is here too.
+// The calls below their judging: what a write, a block return and a block restore do to a valid port and a screen of 1,920 bytes, and a taking of marks to the port alone. `console` and `multiplexer` judge a call and make it here; the one refusal that both have, of a screen, is here too.
 use block::block_fits;
 use block::block_length;
 use block::copy_in;
@@ -99,7 +99,7 @@ pub fn restore_block(p: Port, screen: &mut [u8], block: &[u8]) -> Answer
     answer_of(Status::BlockMismatch, p, 0)
 }
 
-// What a taking hands back: the status, the port, the marks, and how many lines are marked.
+// What a taking hands back: the status, the port, the marks (line r is bit r, line 0 the lowest), and how many lines are marked.
 pub struct Taking {
     pub status: Status,
     pub port: Port,
@@ -118,7 +118,7 @@ pub fn taking_of(status: Status, port: Port, marks: u32, count: usize) -> Taking
     }
 }
 
-// Hands the marks out and clears them. No screen is lent, and no block.
+// Hands out the marks and clears them. No screen is lent, and no block.
 pub fn take_marks(p: Port) -> Taking
     requires { ⌜ ValidPort p ⌝ }
     ensures { λ r. ⌜ Replies (marksTaken p [] []) (r .status) (r .port) (takenOf (r .marks) (r .count)) [] [] ⌝ }

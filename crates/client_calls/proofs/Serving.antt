@@ -20,7 +20,7 @@ use Rattle.multiplexer.specs.Located.{clientSlot, locatedOn}
 use Rattle.multiplexer.specs.Calls.{onSlot, relayed}
 use Rattle.multiplexer.proofs.Clients.{goes-to-slot, goes-nowhere}
 use Rattle.multiplexer.proofs.Replying.{located-on, at-slot, at-refusal, map-slot}
-use Rattle.client_calls.specs.Serve.{CallReply, counted, Call, lentBlock, takesScreen, callOnPort, serve, beside, ServesCalls}
+use Rattle.client_calls.specs.Serve.{CallReply, counted, Call, lentBlock, takesScreen, callOnPort, serve, withScreen, ServesCalls}
 use Rattle.client_calls.proofs.Consoles.{keeps-call}
 
 -- the calls are those that the multiplexer's contracts cite
@@ -30,7 +30,7 @@ serves-calls = record {
   write = λ m s n bytes. map-slot 0 noneTaken m s bytes s bytes _ counted (λ status. refl) (locatedOn (length s) (clientSlot m n));
   return = λ m s n block. map-slot 0 noneTaken m s block s block _ counted (λ status. refl) (locatedOn (length s) (clientSlot m n));
   restore = λ m s n block. map-slot 0 noneTaken m s block s block _ counted (λ status. refl) (locatedOn (length s) (clientSlot m n));
-  take = λ m s n. map-slot noneTaken noneTaken m [] [] s [] _ (beside s) (λ status. refl) (clientSlot m n);
+  take = λ m s n. map-slot noneTaken noneTaken m [] [] s [] _ (withScreen s) (λ status. refl) (clientSlot m n);
 }
 
 -- the same clients and panes

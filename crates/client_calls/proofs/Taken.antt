@@ -25,8 +25,8 @@ use Rattle.client_calls.proofs.Serving.{port-valid}
 pub taken-leaves : (m : Multiplexer) (n : ℕ) → ValidMultiplexer m → (i : ℕ) → Open m i → slotAt m i .client ≡ n → takeCall m n ≡ relayed m i (marksTaken (slotAt m i .port) [] [])
 taken-leaves m n v i o e = at-slot noneTaken m [] [] _ _ i (goes-to-slot m n v i o e)
 
-pub take-refused : (m : Multiplexer) (n : ℕ) → ValidMultiplexer m → Closed m n → takeCall m n ≡ refusalWith noneTaken NotOpen m [] []
-take-refused m n v h = at-refusal noneTaken m [] [] _ _ NotOpen (goes-nowhere m n v h)
+pub taken-nowhere : (m : Multiplexer) (n : ℕ) → ValidMultiplexer m → Closed m n → takeCall m n ≡ refusalWith noneTaken NotOpen m [] []
+taken-nowhere m n v h = at-refusal noneTaken m [] [] _ _ NotOpen (goes-nowhere m n v h)
 
 -- 'refusals, with no marks and 0'
 pub take-refuses : (m : Multiplexer) (n : ℕ) → ChangesNothing Done noneTaken m [] [] (takeCall m n)
@@ -40,5 +40,5 @@ take-valid m n v =
     (λ k. let i = k .0 in
     let o = k .1 in
     rw (taken-leaves m n v i o (k .2)) (port-valid m v i o _ refl (marks-valid (slotAt m i .port) (v .ports i o) noMarks (none-within (pane m i)))))
-    (λ h. rw (take-refused m n v h) v)
+    (λ h. rw (taken-nowhere m n v h) v)
     (client? m n)

@@ -68,12 +68,12 @@ serve m s c =
     onSlot noneTaken (cond (takesScreen (c .kind)) (locatedOn (length s) located) located) m s (lentBlock (c .kind)) (λ i. relayed m i (callOnPort (c .kind) (slotAt m i .port) s))
 
 -- a call that no screen is lent to leaves the screen as it was
-abbrev pub beside : {State Result : Type 0} → List ℕ → Reply Status State Result → Reply Status State Result
-beside s r = record { status = r .status; state = r .state; result = r .result; screen = s; block = r .block }
+abbrev pub withScreen : {State Result : Type 0} → List ℕ → Reply Status State Result → Reply Status State Result
+withScreen s r = record { status = r .status; state = r .state; result = r .result; screen = s; block = r .block }
 
 -- the calls that the multiplexer's contracts cite
 pub record ServesCalls (f : Server) : Type 0 where
   pub write : (m : Multiplexer) (s : List ℕ) (n : ℕ) (bytes : List ℕ) → f m s (callBy n (Write bytes)) ≡ counted (writeCall m s n bytes)
   pub return : (m : Multiplexer) (s : List ℕ) (n : ℕ) (block : List ℕ) → f m s (callBy n (Return block)) ≡ counted (returnCall m s n block)
   pub restore : (m : Multiplexer) (s : List ℕ) (n : ℕ) (block : List ℕ) → f m s (callBy n (Restore block)) ≡ counted (restoreCall m s n block)
-  pub take : (m : Multiplexer) (s : List ℕ) (n : ℕ) → f m s (callBy n Take) ≡ beside s (takeCall m n)
+  pub take : (m : Multiplexer) (s : List ℕ) (n : ℕ) → f m s (callBy n Take) ≡ withScreen s (takeCall m n)

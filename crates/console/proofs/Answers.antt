@@ -2,7 +2,7 @@
 use Prim.Native.Nat.{ℕ}
 use mathlib.Core.Path.{_≡_, refl, ap, _∙_}
 use mathlib.Core.Bool.{Bool, true, false, cond}
-use mathlib.Core.List.{List}
+use mathlib.Core.List.{List, []}
 use lib.Dec.{ltb}
 use lib.ListN.{length}
 use Rattle.laws.proofs.Tests.{fails}
@@ -10,14 +10,17 @@ use Rattle.block.specs.Block.{blockLength, blockFits}
 use Rattle.port.specs.declared.Port.{Port}
 use Rattle.port.specs.Valid.{ValidPort}
 use Rattle.port.proofs.Validity.{decides-valid}
+use Rattle.reply.specs.declared.Status.{Status}
 use Rattle.reply.specs.declared.Status.the-variants.{Done, ScreenLength, Invalid, BlockTooShort, BlockMismatch}
-use Rattle.reply.specs.Reply.{refusal}
+use Rattle.reply.specs.Reply.{Reply, refusal, refusalWith}
+use Rattle.reply.specs.Laws.{ChangesNothing}
 use Rattle.calls.specs.declared.Verdict.the-variants.{Accepted, Refused}
 use Rattle.calls.specs.Verdict.{firstOf}
 use Rattle.calls.specs.Calls.{PortReply, PortCall, written, blockReturned, blockRestored}
+use Rattle.calls.specs.Taking.{Taken, noneTaken, marksTaken}
 use Rattle.calls.proofs.Verdicts.{on-screen, off-screen, on-accepted, on-refused, by-verdict}
-use Rattle.calls.proofs.Refusals.{Unchanged, written-refuses, returned-refuses, restored-refuses}
-use Rattle.console.specs.Calls.{portVerdict, plainVerdict, plainCall, writeCall, returnCall, restoreCall}
+use Rattle.calls.proofs.Refusals.{Unchanged, written-refuses, returned-refuses, restored-refuses, taken-refuses}
+use Rattle.console.specs.Calls.{portVerdict, plainVerdict, plainCall, writeCall, returnCall, restoreCall, takeCall}
 
 -- 1 where there are not 1,920 cells, then 2 where the port is not valid, and else none
 module _ (p : Port) (s : List ℕ) where
@@ -60,6 +63,20 @@ module _ (p : Port) (s block : List ℕ) (v : ValidPort p) (len : length s ≡ 1
   pub restore-answers : restoreCall p s block .status ≡ cond (blockFits (p .view .viewport) block) Done BlockMismatch
   unfolding blockRestored
   restore-answers = ap (λ (r : PortReply). r .status) (accepted blockRestored p s block v len) ∙ status-of (blockFits (p .view .viewport) block) _ _
+
+-- a taking of a valid port's marks is done
+pub take-answers : (p : Port) → ValidPort p → takeCall p .status ≡ Done
+unfolding portVerdict marksTaken
+take-answers p v = ap (λ (r : Reply Status Port Taken). r .status) (on-accepted noneTaken p [] [] (marksTaken p [] []) (rw (decides-valid p .passes v) refl))
+
+-- .. and of one that is not valid it is refused with 2
+pub take-invalid : (p : Port) → (ValidPort p → ⊥) → takeCall p ≡ refusalWith noneTaken Invalid p [] []
+unfolding portVerdict
+take-invalid p bad = on-refused noneTaken p [] [] (marksTaken p [] []) Invalid (rw (fails (decides-valid p) bad) refl)
+
+-- a refused one hands no marks out, counts 0 and changes nothing
+pub take-refuses : (p : Port) → ChangesNothing Done noneTaken p [] [] (takeCall p)
+take-refuses p = by-verdict noneTaken p [] [] (marksTaken p [] []) (ChangesNothing Done noneTaken p [] []) (portVerdict p) (λ status _ e. refl) (λ _. taken-refuses p [] [])
 
 -- a refused call changes nothing and counts 0
 module _ (p : Port) (s block : List ℕ) where

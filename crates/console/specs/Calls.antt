@@ -36,7 +36,7 @@ plainVerdict p size = firstOf (screenVerdict size) (portVerdict p)
 abbrev pub plainCall : PortCall → PortCall
 plainCall call p s block = onVerdict 0 (plainVerdict p (length s)) p s block (call p s block)
 
--- the three calls. 'An empty write is judged by the same refusals and otherwise changes nothing'; the one-byte call 'means the same, number and count included, as a plain write of that byte by value': `writeCall` at that one byte
+-- the three calls that take a screen. 'An empty write is judged by the same refusals and otherwise changes nothing'; the one-byte call 'means the same, number and count included, as a plain write of that byte by value': `writeCall` at that one byte
 abbrev pub writeCall : PortCall
 writeCall = plainCall written
 

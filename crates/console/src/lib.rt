@@ -164,7 +164,7 @@ pub fn restore_block(p: Port, screen: &mut [u8], block: &[u8]) -> Answer
     }
 }
 
-// Hands the marks of the lines that were stored to out, with their number, and clears them. No screen is lent.
+// Hands out the marks of the lines that were stored to (line r is bit r, line 0 the lowest), and how many they are, and clears them. No screen is lent.
 pub fn take_marks(p: Port) -> Taking
     ensures { λ r. ⌜ Replies (takeCall p) (r .status) (r .port) (takenOf (r .marks) (r .count)) [] [] ⌝ }
 {

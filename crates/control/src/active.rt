@@ -7,6 +7,7 @@ ghost use mathlib.Core.Path.{_≡_};
 ghost use Prim.Native.Nat.{_<_};
 ghost use Rattle.control.specs.Active as rules;
 
+// The marks stand first: a word behind the view's odd number of bytes makes each byte slower.
 pub struct Active {
     pub marks: u32,
     pub view: View,
@@ -21,8 +22,8 @@ pub fn active_of(p: Port) -> Active
     let view = p.view;
     let gathered = p.gathered;
     Active {
-        view,
         marks: p.marks,
+        view,
         waiting: p.waiting,
         gathered,
         count: p.count,

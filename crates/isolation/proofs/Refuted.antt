@@ -100,8 +100,8 @@ showsOther m s c =
     let r : CallReply Multiplexer = serve m s c in
     record { status = r .status; state = r .state; result = r .result; screen = r .screen; block = onPlace 1 m s c .block }
 
-markedScreen : List ℕ
-markedScreen = set blankScreen 0 0x81
+letteredScreen : List ℕ
+letteredScreen = set blankScreen 0 0x81
 
 -- the first cell of the first answer's block
 firstCell : List Answer → ℕ
@@ -109,10 +109,10 @@ firstCell [] = 0
 firstCell (a ∷ xs) = getD (a .block) 2 0
 
 not-shows-other : Isolation showsOther → ⊥
-unfolding showsOther markedScreen firstCell blankScreen pair serveAll callsOf standalone answersTo blockReturned blockLength blockOf rowsFrom rowCells rowStart
+unfolding showsOther letteredScreen firstCell blankScreen pair serveAll callsOf standalone answersTo blockReturned blockLength blockOf rowsFrom rowCells rowStart
 not-shows-other d =
-    let len : length markedScreen ≡ 1920 = length-set blankScreen 0 0x81 ∙ blank-size in
-    let e : _≡_ {A = ℕ} 0xa0 0x81 = ap firstCell (d .isolated pair markedScreen (callBy 7 (Return (0 ∷ 0 ∷ 0 ∷ 0 ∷ 0 ∷ 0 ∷ [])) ∷ []) pair-valid len .answers 0 left-open) in
+    let len : length letteredScreen ≡ 1920 = length-set blankScreen 0 0x81 ∙ blank-size in
+    let e : _≡_ {A = ℕ} 0xa0 0x81 = ap firstCell (d .isolated pair letteredScreen (callBy 7 (Return (0 ∷ 0 ∷ 0 ∷ 0 ∷ 0 ∷ 0 ∷ [])) ∷ []) pair-valid len .answers 0 left-open) in
     omega arith
 
 -- one that serves as it should, but for a taking, which hands the marks out and leaves them

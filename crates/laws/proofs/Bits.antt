@@ -1,5 +1,5 @@
 -- The bits of a number: of a disjunction, of a stretch of ones, and how many are set. Two numbers with the same bits are one. Assumes nothing.
-use Prim.Native.Nat.{ℕ, zero, suc, _+_, _-_, _/_, _%_, _^_, _<_, max}
+use Prim.Native.Nat.{ℕ, zero, suc, _+_, _-_, _/_, _%_, _^_, _≤_, _<_, max}
 use mathlib.Core.Path.{_≡_, refl, sym, ap, _∙_}
 use mathlib.Core.Bool.{Bool, true, false, cond, _&&_, _||_, true≢false}
 use native.Mathlib.Omega.{arith}
@@ -24,14 +24,14 @@ one-test zero (suc (suc v)) _ h e = absurd (omega arith)
 one-test (suc zero) (suc (suc v)) _ h e = absurd (omega arith)
 one-test (suc (suc u)) v h _ e = absurd (omega arith)
 
-either-one : (u v : ℕ) → u < 2 → v < 2 → eqb (max u v) 1 ≡ (eqb u 1 || eqb v 1)
-either-one zero zero _ _ = refl
-either-one zero (suc zero) _ _ = refl
-either-one (suc zero) zero _ _ = refl
-either-one (suc zero) (suc zero) _ _ = refl
-either-one zero (suc (suc v)) _ h = absurd (omega arith)
-either-one (suc zero) (suc (suc v)) _ h = absurd (omega arith)
-either-one (suc (suc u)) v h _ = absurd (omega arith)
+one-of-two : (u v : ℕ) → u < 2 → v < 2 → eqb (max u v) 1 ≡ (eqb u 1 || eqb v 1)
+one-of-two zero zero _ _ = refl
+one-of-two zero (suc zero) _ _ = refl
+one-of-two (suc zero) zero _ _ = refl
+one-of-two (suc zero) (suc zero) _ _ = refl
+one-of-two zero (suc (suc v)) _ h = absurd (omega arith)
+one-of-two (suc zero) (suc (suc v)) _ h = absurd (omega arith)
+one-of-two (suc (suc u)) v h _ = absurd (omega arith)
 
 one-counts : (u : ℕ) → u < 2 → u ≡ cond (eqb u 1) 1 0
 one-counts zero _ = refl
@@ -79,7 +79,7 @@ pub bit-or : (a b r : ℕ) → bit (bitOr a b) r ≡ (bit a r || bit b r)
 unfolding bit
 bit-or a b r =
     ap (λ (x : ℕ). eqb (x % 2) 1) (or-shr a b r) ∙ ap (λ (x : ℕ). eqb x 1) (or-odd (a / 2 ^ r) (b / 2 ^ r))
-    ∙ either-one (a / 2 ^ r % 2) (b / 2 ^ r % 2) (odd (a / 2 ^ r)) (odd (b / 2 ^ r))
+    ∙ one-of-two (a / 2 ^ r % 2) (b / 2 ^ r % 2) (odd (a / 2 ^ r)) (odd (b / 2 ^ r))
 
 -- the ones from bit low on, below bit end: half of them are those that stand a bit lower
 lower : ℕ → ℕ
@@ -121,3 +121,13 @@ ones-count (suc k) n small =
     ones-step n
     ∙ (λ i. one-counts (n % 2) (odd n) i + ones-count k (n / 2) (half-below k n small) i)
     ∙ sym (λ i. cond (bit-zero n i) 1 0 + countBelow k (λ r. bit-suc n r i))
+
+-- at most k numbers below k pass a test
+pub count-most : (k : ℕ) (test : ℕ → Bool) → countBelow k test ≤ k
+unfolding countBelow
+count-most zero test = omega arith
+count-most (suc k) test = let h = count-most k (λ r. test (suc r)) in let one = at-most (test 0) in omega arith
+  where
+    at-most : (b : Bool) → cond b 1 0 ≤ 1
+    at-most true = omega arith
+    at-most false = omega arith

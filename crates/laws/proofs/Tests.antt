@@ -34,6 +34,14 @@ and-right false b e = cc
 pub and-both : (a b : Bool) → a ≡ true → b ≡ true → (a && b) ≡ true
 and-both a b p q = simp (p, q)
 
+-- one of two tests is true
+pub or-first : (a b : Bool) → a ≡ true → (a || b) ≡ true
+or-first a b e = simp e
+
+pub or-second : (a b : Bool) → b ≡ true → (a || b) ≡ true
+or-second true b e = refl
+or-second false b e = e
+
 -- neither of two tests is true
 pub or-left : (a b : Bool) → (a || b) ≡ false → a ≡ false
 or-left true b e = e

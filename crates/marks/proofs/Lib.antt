@@ -1,3 +1,3 @@
--- `Marking`: what is marked as a number is marked line by line. `Cells`: a cell on a line that is not stored to stays.
+-- `Marking`: what is marked as a number is marked line by line. `Cells`: the cells of lines that are stored to, and of those that are not.
 pub mod Marking
 pub mod Cells

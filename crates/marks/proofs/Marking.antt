@@ -182,7 +182,7 @@ module _ (marks : ℕ) (r : Rect) (test : Bool) (is : test ≡ legal r) where
   unfolding withinLines
   not-tested t = simp (sym is ∙ t)
 
--- ones are counted as lines
-pub counted : (marks : ℕ) {n : ℕ} → marks < 2 ^ 24 → n ≡ ones marks → n ≡ lineCount marks
+-- ones are ones-counted as lines
+pub ones-counted : (marks : ℕ) {n : ℕ} → marks < 2 ^ 24 → n ≡ ones marks → n ≡ lineCount marks
 unfolding lineCount
-counted marks small is = is ∙ ones-count 24 marks small
+ones-counted marks small is = is ∙ ones-count 24 marks small

@@ -107,7 +107,6 @@ module _ (m : Multiplexer) (n : ℕ) (j : Located) (is : j ≡ clientSlot m n) w
   client-port i p e at = rw at (found m n i (sym is ∙ e) .port)
 
   -- closing
-
   pub close-done-by : (i : ℕ) (p : Port) (x : Slot) (q : Multiplexer) (a : Answer) → j ≡ At i → p ≡ zeroPort → x ≡ newSlot 0 p → q ≡ withSlot m i x → a ≡ answerOf Done q 0
       → Replies (closeCall m n) (a .status) (a .multiplexer) (a .count) [] []
   close-done-by i p x q a e zero y w h =

@@ -46,7 +46,7 @@ returnCall m s n block = onClient blockReturned (locatedOn (length s) (clientSlo
 abbrev pub restoreCall : Multiplexer → List ℕ → ℕ → List ℕ → MultiplexerReply
 restoreCall m s n block = onClient blockRestored (locatedOn (length s) (clientSlot m n)) m s block
 
--- a taking takes none; 'refusals, with no marks and 0'
+-- a taking takes no screen; 'refusals, with no marks and 0'
 abbrev pub takeCall : Multiplexer → ℕ → Reply Status Multiplexer Taken
 takeCall m n = onSlot noneTaken (clientSlot m n) m [] [] (λ i. relayed m i (marksTaken (slotAt m i .port) [] []))
 

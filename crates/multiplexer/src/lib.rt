@@ -44,7 +44,7 @@ fn answer_of(status: Status, multiplexer: Multiplexer, count: usize) -> Answer
     }
 }
 
-// What a taking hands back: the status, the multiplexer, the marks, and how many lines are marked.
+// What a taking hands back: the status, the multiplexer, the marks (line r is bit r, line 0 the lowest), and how many lines are marked.
 pub struct Taking {
     pub status: Status,
     pub multiplexer: Multiplexer,
@@ -212,7 +212,7 @@ fn relay_taking(m: Multiplexer, i: usize, taking: calls::Taking) -> Taking
     taking_of(status, with_port(m, i, port), taking.marks, taking.count)
 }
 
-// Hands the marks of the client's port out, with their number, and clears them. No screen is lent.
+// Hands out the marks of the client's port, and how many lines are marked, and clears them. No screen is lent.
 pub fn take_marks(m: Multiplexer, client: u8) -> Taking
     ensures { λ r. ⌜ Replies (takeCall m client) (r .status) (r .multiplexer) (takenOf (r .marks) (r .count)) [] [] ⌝ }
 {

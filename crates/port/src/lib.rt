@@ -34,5 +34,6 @@ pub struct Port {
     pub waiting: u8,
     pub gathered: [u8; 4],
     pub count: u8,
+    // Line r is bit r, line 0 the lowest.
     pub marks: u32,
 }

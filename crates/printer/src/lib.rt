@@ -44,7 +44,7 @@ pub fn print_spaces(screen: &mut [u8], v: View, marks: u32, byte: u8, count: u8)
 }
 
 // Prints codes of bytes, from place from on, while they are printing codes and stay left of the right edge: they are stored in one go.
-// The cursor is left for the caller to move. Returns how many they are, 0 where the cursor does not advance.
+// The cursor is left for the caller to move, and the line to mark. Returns how many they are, 0 where the cursor does not advance.
 fn print_run(screen: &mut [u8], table: &[u8; 768], v: View, bytes: &[u8], from: usize) -> usize
     requires { ⌜ Placed v × Agrees (now table) × (from ≤ length (now bytes)) × (length (now screen) ≡ 1920) ⌝ }
     ensures { λ n. ⌜ (v .column + n ≤ v .viewport .right) × (from + n ≤ length (now (bytes .entry))) × RunPrinted v n (take n (drop from (now (bytes .entry)))) (cursorAt v (v .column + n) (v .line)) (now (screen .entry)) (now (screen .exit)) ⌝ }

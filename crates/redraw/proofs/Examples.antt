@@ -2,7 +2,8 @@
 use mathlib.Core.Path.{_≡_, refl}
 use mathlib.Core.Bool.{true}
 use Rattle.charset.specs.Stored.{inRange, storedSymbol, storedCapital, storedHigh, storedByte}
-use Rattle.marks.specs.Marks.{hasLine, storedTo}
+use Rattle.laws.specs.Bits.{bit}
+use Rattle.marks.specs.Marks.{marked}
 use Rattle.port.specs.State.{zeroView}
 use Rattle.port.specs.Valid.{parameters}
 use Rattle.port.specs.Codes.{moveCursorRight, modeOf, storeCell, advance, printByte, print, inOffsetRange, nearestInside, resize, setPortSize, clearLinesAbove, clearFromPortStart, clearLinesBelow, clearToPortEnd, horizontalScroll, setVertical, setHorizontal, backspace, lineFeed, feedIfLF, carriageReturn, printSpaces, dleSpaceExpansion, bitSet, moveCursorUp}
@@ -11,5 +12,5 @@ use Rattle.port.specs.Stream.{stream}
 use Rattle.redraw.specs.Table.{allRight, table}
 
 pub table-holds : allRight table ≡ true
-unfolding inRange storedSymbol storedCapital storedHigh storedByte zeroView parameters moveCursorRight modeOf storeCell advance printByte print inOffsetRange nearestInside resize setPortSize clearLinesAbove clearFromPortStart clearLinesBelow clearToPortEnd horizontalScroll setVertical setHorizontal backspace lineFeed feedIfLF carriageReturn printSpaces dleSpaceExpansion bitSet moveCursorUp pop control obey perform parameter step stream hasLine storedTo
+unfolding inRange storedSymbol storedCapital storedHigh storedByte zeroView parameters moveCursorRight modeOf storeCell advance printByte print inOffsetRange nearestInside resize setPortSize clearLinesAbove clearFromPortStart clearLinesBelow clearToPortEnd horizontalScroll setVertical setHorizontal backspace lineFeed feedIfLF carriageReturn printSpaces dleSpaceExpansion bitSet moveCursorUp pop control obey perform parameter step stream marked bit
 table-holds = refl

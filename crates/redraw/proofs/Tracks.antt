@@ -1,14 +1,14 @@
 -- One call on a valid port and 1,920 cells: what it changes it marks, and what was marked stays marked, or is handed out. Assumes nothing.
 use Prim.Native.Nat.{ℕ, _<_}
 use mathlib.Core.Path.{_≡_, refl, sym, ap, _∙_}
-use mathlib.Core.Bool.{Bool, true, false, cond, _||_}
+use mathlib.Core.Bool.{Bool, true, cond, _||_}
 use mathlib.Core.Logic.{_⊎_, inl, inr, ⊎-elim}
 use mathlib.Core.List.{List}
 use lib.Dec.{ltb}
 use lib.ListN.{length, getD}
 use lib.Seq.{ext-getD}
 use Rattle.laws.specs.Tabulate.{tabulate, length-tabulate, getD-tabulate}
-use Rattle.laws.proofs.Tests.{tested, not-both, by-test}
+use Rattle.laws.proofs.Tests.{tested, not-both, by-test, or-first, or-second}
 use Rattle.rectangle.specs.declared.Rect.{Rect}
 use Rattle.rectangle.specs.Cells.{lineOf}
 use Rattle.rectangle.proofs.Edits.{inside?}
@@ -26,14 +26,6 @@ use Rattle.calls.specs.Taking.{marksTaken}
 use Rattle.client_calls.specs.Serve.{CallReply, counted, Kind, callOnPort}
 use Rattle.client_calls.specs.Serve.Kind.{Write, Return, Restore, Take}
 use Rattle.redraw.specs.Redraw.{redrawn}
-
--- a test or another
-either-one : (a b : Bool) → a ≡ true → (a || b) ≡ true
-either-one a b e = simp e
-
-either-other : (a b : Bool) → b ≡ true → (a || b) ≡ true
-either-other true b e = refl
-either-other false b e = e
 
 -- of a call that hands no marks out
 pub record Grows (p : Port) (s : List ℕ) (r : PortReply) : Type 0 where
@@ -55,10 +47,10 @@ module _ (p : Port) (v : ValidPort p) (s : List ℕ) (l : length s ≡ 1920) whe
   grows-write bytes = record {
     len = stream-local p v bytes .len s l ∙ sym l;
     cells = λ k.
-        ⊎-elim (λ is. inr (stream-marks p v bytes (lineOf k) ∙ either-other (isMarked (p .marks) (lineOf k)) (storedTo (stream p bytes .edits) (lineOf k)) is))
+        ⊎-elim (λ is. inr (stream-marks p v bytes (lineOf k) ∙ or-second (isMarked (p .marks) (lineOf k)) (storedTo (stream p bytes .edits) (lineOf k)) is))
         (λ none. inl (cell-stays (p .home) (v .home .right-in) (v .home .bottom-in) (stream p bytes .edits) (keeps-stream p v bytes .edits) s l k none))
         (tested (storedTo (stream p bytes .edits) (lineOf k)));
-    marks = λ line is. stream-marks p v bytes line ∙ either-one (isMarked (p .marks) line) (storedTo (stream p bytes .edits) line) is;
+    marks = λ line is. stream-marks p v bytes line ∙ or-first (isMarked (p .marks) line) (storedTo (stream p bytes .edits) line) is;
   }
 
   pub grows-return : (block : List ℕ) → Grows p s (blockReturned p s block)
@@ -75,10 +67,10 @@ module _ (p : Port) (v : ValidPort p) (s : List ℕ) (l : length s ≡ 1920) whe
       (λ _. record {
         len = length-restored rect block s ∙ sym l;
         cells = λ k.
-            ⊎-elim (λ x. inr (marked-in (p .marks) rect (lineOf k) ∙ either-other (isMarked (p .marks) (lineOf k)) (hasLine rect (lineOf k)) (has-line rect k x)))
+            ⊎-elim (λ x. inr (marked-in (p .marks) rect (lineOf k) ∙ or-second (isMarked (p .marks) (lineOf k)) (hasLine rect (lineOf k)) (has-line rect k x)))
             (λ out. inl (restored-outside rect block s l k out))
             (inside? rect k);
-        marks = λ line is. marked-in (p .marks) rect line ∙ either-one (isMarked (p .marks) line) (hasLine rect line) is;
+        marks = λ line is. marked-in (p .marks) rect line ∙ or-first (isMarked (p .marks) line) (hasLine rect line) is;
       })
       (λ _. unchanged p s _ refl refl)
 
@@ -92,8 +84,8 @@ pub record Tracks (p : Port) (s : List ℕ) (r : CallReply Port) : Type 0 where
 
 tracks-counted : (p : Port) (s : List ℕ) (r : PortReply) → Grows p s r → Tracks p s (counted r)
 tracks-counted p s r g = record {
-  cells = λ k. ⊎-elim inl (λ is. inr (either-one (isMarked (r .state .marks) (lineOf k)) (isMarked noMarks (lineOf k)) is)) (g .cells k);
-  marks = λ line is. either-one (isMarked (r .state .marks) line) (isMarked noMarks line) (g .marks line is);
+  cells = λ k. ⊎-elim inl (λ is. inr (or-first (isMarked (r .state .marks) (lineOf k)) (isMarked noMarks (lineOf k)) is)) (g .cells k);
+  marks = λ line is. or-first (isMarked (r .state .marks) line) (isMarked noMarks line) (g .marks line is);
 }
 
 pub tracks-call : (p : Port) → ValidPort p → (kind : Kind) (s : List ℕ) → length s ≡ 1920 → Tracks p s (callOnPort kind p s)
@@ -101,7 +93,7 @@ unfolding marksTaken
 tracks-call p v (Write bytes) s l = tracks-counted p s (written p s bytes) (grows-write p v s l bytes)
 tracks-call p v (Return block) s l = tracks-counted p s (blockReturned p s block) (grows-return p v s l block)
 tracks-call p v (Restore block) s l = tracks-counted p s (blockRestored p s block) (grows-restore p v s l block)
-tracks-call p v Take s l = record { cells = λ k. inl refl; marks = λ line is. either-other (isMarked noMarks line) (isMarked (p .marks) line) is }
+tracks-call p v Take s l = record { cells = λ k. inl refl; marks = λ line is. or-second (isMarked noMarks line) (isMarked (p .marks) line) is }
 
 -- ---- a screen drawn anew
 pub redraws : (lines : ℕ → Bool) (s t : List ℕ) → length t ≡ 1920 → ((k : ℕ) → (getD t k 0 ≡ getD s k 0) ⊎ (lines (lineOf k) ≡ true)) → redrawn lines s t ≡ t

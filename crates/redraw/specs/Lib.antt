@@ -1,4 +1,4 @@
--- `Redraw`: a screen that is drawn anew by its marks. `Marks`: what each call marks, and that marks only grow but by taking and closing. `Table`: what bytes mark, by example.
+-- `Redraw`: a screen that is drawn anew by its marks. `Marks`: what each call marks, what a taking hands out, and that marks only grow but by taking and closing. `Table`: what bytes mark, by example.
 pub mod Redraw
 pub mod Marks
 pub mod Table

@@ -13,7 +13,8 @@ use Rattle.calls.specs.Calls.{PortReply}
 use Rattle.console.specs.Calls.{writeCall, returnCall, restoreCall}
 use Rattle.slots.specs.declared.Multiplexer.{Multiplexer}
 use Rattle.slots.specs.State.{slotAt, pane, Open}
-use Rattle.client_calls.specs.Serve.{Call, Server}
+use Rattle.slots.specs.Valid.{validMultiplexer}
+use Rattle.client_calls.specs.Serve.{Call, Server, serve}
 use Rattle.isolation.specs.Isolation.{Answer, Served, serveAll, answersTo}
 
 -- what a host shows, once the lines that pass a test are copied from the screen: the others stay as they were shown
@@ -39,11 +40,14 @@ plainAll p s [] = record { port = p; screen = s }
 plainAll p s (c ∷ cs) = plainAll (plainReply p s c .state) (plainReply p s c .screen) cs
 
 -- s is the screen as it was when the marks were last taken, or at any time since
-pub record PlainRedraw (p : Port) (s : List ℕ) (cs : List PlainCall) : Type 0 where
+pub record PlainTracked (p : Port) (s : List ℕ) (cs : List PlainCall) : Type 0 where
   -- a cell is as it was, or lies on a marked line
   pub cells : (k : ℕ) → (getD (plainAll p s cs .screen) k 0 ≡ getD s k 0) ⊎ (isMarked (plainAll p s cs .port .marks) (lineOf k) ≡ true)
   -- a line that was marked still is
   pub grows : (line : ℕ) → isMarked (p .marks) line ≡ true → isMarked (plainAll p s cs .port .marks) line ≡ true
+
+pub record PlainRedraw (p : Port) (s : List ℕ) (cs : List PlainCall) : Type 0 where
+  pub tracked : PlainTracked p s cs
   -- so the screen that was shown, with the marked lines drawn anew, is the screen
   pub shown : length s ≡ 1920 → redrawn (isMarked (plainAll p s cs .port .marks)) s (plainAll p s cs .screen) ≡ plainAll p s cs .screen
 
@@ -68,3 +72,8 @@ pub record ClientRedraw (f : Server) (m : Multiplexer) (s : List ℕ) (cs : List
   pub cells : (k : ℕ) → (getD (serveAll f m s cs .screen) k 0 ≡ getD s k 0) ⊎ ((i : ℕ) × Open m i × Inside (pane m i) k × (linesOf f m s cs i (lineOf k) ≡ true))
   -- so the screen that was shown, with these lines drawn anew, is the screen
   pub shown : redrawn (linesOfAll f m s cs) s (serveAll f m s cs .screen) ≡ serveAll f m s cs .screen
+
+-- ---- the laws: plain, of every port and screen, refused calls included; by client, of demand 3's start
+pub record RedrawLaws : Type 0 where
+  pub plain : (p : Port) (s : List ℕ) (cs : List PlainCall) → PlainRedraw p s cs
+  pub client : (m : Multiplexer) (s : List ℕ) (cs : List Call) → validMultiplexer m ≡ true → length s ≡ 1920 → ClientRedraw serve m s cs

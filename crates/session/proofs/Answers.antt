@@ -1,12 +1,11 @@
 -- Bytes stored to a slice: an answer lies in front, and the rest is as it was. What a taking counts fits a byte. Assumes nothing.
 use Prim.Native.Nat.{ℕ, zero, suc, _+_, _≤_, _<_}
 use mathlib.Core.Path.{_≡_, refl, sym, ap, _∙_}
-use mathlib.Core.Bool.{Bool, true, false, cond}
 use mathlib.Core.List.{List, [], _∷_, _++_}
 use native.Mathlib.Omega.{arith}
 use lib.ListN.{length, take, drop, set, length-drop}
 use lib.Seq.{drop-drop, sets-eq}
-use Rattle.laws.specs.Bits.{countBelow}
+use Rattle.laws.proofs.Bits.{count-most}
 use Rattle.marks.specs.Marks.{isMarked, lineCount}
 use Rattle.port.specs.declared.Port.{Port}
 use Rattle.reply.specs.Numbers.{statusNumber}
@@ -49,15 +48,6 @@ parts-stored s t u number count column line marks lines h head word = rw (word, 
     rest (a ∷ b ∷ v) k = rw (first-stored v 4 lines (omega arith))
 
 -- at most 24 lines are marked, which a byte holds
-count-most : (k : ℕ) (test : ℕ → Bool) → countBelow k test ≤ k
-unfolding countBelow
-count-most zero test = omega arith
-count-most (suc k) test = let h = count-most k (λ r. test (suc r)) in let one = at-most (test 0) in omega arith
-  where
-    at-most : (b : Bool) → cond b 1 0 ≤ 1
-    at-most true = omega arith
-    at-most false = omega arith
-
 lines-few : (j : Verdict) (p : Port) → onVerdict noneTaken j p [] [] (marksTaken p [] []) .result .count ≤ 24
 unfolding onVerdict marksTaken lineCount
 lines-few Accepted p = count-most 24 (isMarked (p .marks))

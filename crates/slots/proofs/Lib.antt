@@ -1,4 +1,4 @@
 -- `Validity`: the test for validity is true exactly when its clauses hold.
--- `Slots`: which slot a client has, and another slot in a place.
+-- `Slots`: which slot a client has, another slot in a place, and a slot just opened.
 pub mod Validity
 pub mod Slots

@@ -2,7 +2,7 @@
 use mathlib.Core.Path.{refl}
 use borrow.Author.Needs.{needs}
 use lib.Count.{ones-le}
-use Rattle.marks.proofs.Marking.{counted}
+use Rattle.marks.proofs.Marking.{ones-counted}
 use Rattle.marks.proofs.count.Statement.{statement}
 use Rattle.marks.proofs.count.Tie as tie
 
@@ -10,7 +10,7 @@ cast-result : tie.Need-cast-result
 cast-result c = let few = ones-le 24 (c .args .marks) (c .pre) in search needs
 
 returns : tie.Need-returns
-returns c = counted (c .args .marks) (c .pre) refl
+returns c = ones-counted (c .args .marks) (c .pre) refl
 
 pub count-spec : {M : Type 1} → statement M
 count-spec = tie.close (tie.spec cast-result returns)

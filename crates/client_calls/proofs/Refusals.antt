@@ -9,8 +9,7 @@ use lib.Seq.{set-getD}
 use Rattle.laws.proofs.Tests.{either}
 use Rattle.screen.proofs.Sizes.{decides-screen}
 use Rattle.port.specs.declared.Port.{Port}
-use Rattle.reply.specs.declared.Status.the-variants.{ScreenLength}
-use Rattle.reply.specs.declared.Status.the-variants.{Done}
+use Rattle.reply.specs.declared.Status.the-variants.{Done, ScreenLength}
 use Rattle.reply.specs.Reply.{refusalWith}
 use Rattle.reply.specs.Laws.{ChangesNothing}
 use Rattle.calls.specs.Taking.{noneTaken}

@@ -6,10 +6,9 @@ use mathlib.Core.List.{[]}
 use Rattle.marks.specs.Marks.{noMarks}
 use Rattle.marks.proofs.Marking.{none-within}
 use Rattle.port.proofs.Validity.{marks-valid}
-use Rattle.reply.specs.declared.Status.the-variants.{NotOpen}
+use Rattle.reply.specs.declared.Status.the-variants.{Done, NotOpen}
 use Rattle.reply.specs.Reply.{refusalWith}
 use Rattle.reply.specs.Laws.{ChangesNothing}
-use Rattle.reply.specs.declared.Status.the-variants.{Done}
 use Rattle.calls.specs.Taking.{noneTaken, marksTaken}
 use Rattle.slots.specs.declared.Multiplexer.{Multiplexer}
 use Rattle.slots.specs.State.{slotAt, pane, Open, Closed}

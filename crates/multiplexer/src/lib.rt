@@ -22,9 +22,9 @@ ghost use mathlib.Core.Path.{_≡_};
 ghost use Prim.Native.Nat.{_<_};
 ghost use mathlib.Core.List.{[]};
 ghost use Rattle.reply.specs.Reply.{Replies};
+ghost use Rattle.calls.specs.Taking.{takenOf};
 ghost use Rattle.slots.specs.State.{freshMultiplexer, withPort};
 ghost use Rattle.multiplexer.specs.Located.{multiplexerVerdict, claimVerdict, freeSlotFor, openSlot, verdictFirst, clientSlot, claimSlot, locatedOn};
-ghost use Rattle.calls.specs.Taking.{takenOf};
 ghost use Rattle.multiplexer.specs.Calls.{writeCall, returnCall, restoreCall, takeCall, openCall, closeCall, answerOf, takingOf};
 
 // What a call hands back: the status, the multiplexer, and the count of bells or of bytes.

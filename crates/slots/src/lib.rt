@@ -9,8 +9,8 @@ use port::state::with_marks;
 use rectangle::Rect;
 ghost use mathlib.Core.Path.{_≡_};
 ghost use Prim.Native.Nat.{_<_};
-ghost use Rattle.slots.specs.State.{newSlot, freshSlot, slotAt, withSlot, withPort};
 ghost use Rattle.rectangle.specs.Rectangles.{OnScreen};
+ghost use Rattle.slots.specs.State.{newSlot, freshSlot, slotAt, withSlot, withPort};
 
 // A slot is the paper's seat, and client its bench number. Client 0: the slot is free, and every field is 0 or false.
 pub struct Slot {

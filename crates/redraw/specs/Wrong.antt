@@ -1,7 +1,7 @@
 -- A wrong console: one that spares equal bytes. It says as little of the write as makes it wrong. Assumes nothing.
+use Prim.Native.Nat.{ℕ}
 use mathlib.Core.Path.{_≡_}
 use mathlib.Core.List.{List}
-use Prim.Native.Nat.{ℕ}
 use Rattle.port.specs.declared.Port.{Port}
 use Rattle.calls.specs.Calls.{PortCall}
 

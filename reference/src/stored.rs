@@ -2,7 +2,7 @@
 
 use crate::port::BLANK;
 
-/// The range rule. MouseText matters in inverse mode only.
+/// The range rule. MouseText matters to $40-$5F in inverse mode only.
 pub fn stored_byte(code: u8, inverse: bool, mousetext: bool) -> u8 {
     match code {
         // Control codes are never stored.
@@ -25,7 +25,14 @@ pub fn stored_byte(code: u8, inverse: bool, mousetext: bool) -> u8 {
                 code
             }
         }
-        // High codes, alike in every mode.
-        0x80..=0xFF => code - 128,
+        // High codes show inverse and MouseText in normal mode. In inverse
+        // mode they show normal text, so MouseText changes nothing there.
+        0x80..=0xFF => {
+            if inverse {
+                code
+            } else {
+                code - 128
+            }
+        }
     }
 }

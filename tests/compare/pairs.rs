@@ -1,24 +1,33 @@
-//! Which pairs of control code and flag setting a run has reached.
+//! Which pairs of code and setting a run has reached: each control code with
+//! each setting of the five flags, and each printing code with inverse and
+//! MouseText on and off.
 
-use crate::port::{parameters_needed, Flags, Port};
+use crate::port::{parameters_needed, Flags, Port, State};
 
-/// 32 control codes by 32 settings of the five flags.
+const FLAG_SETTINGS: usize = 32;
+const MODE_SETTINGS: usize = 4;
+
+pub const CONTROL_PAIRS: usize = 32 * FLAG_SETTINGS;
+pub const ALL_PAIRS: usize = CONTROL_PAIRS + 224 * MODE_SETTINGS;
+
 pub struct Pairs {
-    reached: [[bool; 32]; 32],
+    /// For each code whether it was reached with each of its settings.
+    reached: Vec<Vec<bool>>,
 }
-
-pub const ALL_PAIRS: usize = 32 * 32;
 
 impl Pairs {
     pub fn none() -> Pairs {
-        Pairs { reached: [[false; 32]; 32] }
+        let settings = |code| if code < 0x20 { FLAG_SETTINGS } else { MODE_SETTINGS };
+        Pairs { reached: (0..256).map(|code| vec![false; settings(code)]).collect() }
     }
 
-    /// Notes the command, if any, that this byte completes, with the flags
-    /// in force before the command is executed.
+    /// Notes the command that this byte completes or the code that it
+    /// prints, if any, with the setting in force before.
     pub fn note(&mut self, port: &Port, byte: u8) {
         if let Some(code) = command_completed(port, byte) {
-            self.reached[code as usize][setting(port.state.flags)] = true;
+            self.reached[code as usize][flag_setting(port.state.flags)] = true;
+        } else if port.waiting == 0 && byte >= 0x20 {
+            self.reached[byte as usize][mode_setting(&port.state)] = true;
         }
     }
 
@@ -29,9 +38,9 @@ impl Pairs {
     /// The code and setting of each pair not reached.
     pub fn missing(&self) -> Vec<(usize, usize)> {
         let mut missing = Vec::new();
-        for code in 0..32 {
-            for setting in 0..32 {
-                if !self.reached[code][setting] {
+        for (code, settings) in self.reached.iter().enumerate() {
+            for (setting, &reached) in settings.iter().enumerate() {
+                if !reached {
                     missing.push((code, setting));
                 }
             }
@@ -56,7 +65,16 @@ pub fn command_completed(port: &Port, byte: u8) -> Option<u8> {
 }
 
 /// The flags as the low five bits of $15's parameter.
-fn setting(flags: Flags) -> usize {
-    let bits = [flags.dle, flags.scroll, flags.wrap, flags.lf, flags.advance];
-    bits.iter().fold(0, |setting, &bit| 2 * setting + bit as usize)
+fn flag_setting(flags: Flags) -> usize {
+    number(&[flags.dle, flags.scroll, flags.wrap, flags.lf, flags.advance])
+}
+
+/// MouseText is the low bit.
+fn mode_setting(state: &State) -> usize {
+    number(&[state.inverse, state.mousetext])
+}
+
+/// The bits as a number, the highest first.
+fn number(bits: &[bool]) -> usize {
+    bits.iter().fold(0, |number, &bit| 2 * number + bit as usize)
 }

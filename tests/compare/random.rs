@@ -50,15 +50,15 @@ pub fn random(seed: u64, count: u64, console: &OsStr) -> bool {
         let named: Vec<String> = missing
             .iter()
             .take(NAMED)
-            .map(|(code, flags)| format!("${:02X} with {}", code, flags))
+            .map(|(code, setting)| format!("${:02X} with {}", code, setting))
             .collect();
-        println!("not reached, codes with flags: {}", named.join(", "));
+        println!("not reached, codes with settings: {}", named.join(", "));
     }
     if differing > 0 {
         println!("streams that differ: {}", differing);
     }
     println!(
-        "random: {} streams, {} of {} pairs of code and flags reached, seed {}",
+        "random: {} streams, {} of {} pairs of code and setting reached, seed {}",
         count,
         pairs.count(),
         ALL_PAIRS,

@@ -1,4 +1,4 @@
--- Paper 01, 'From code to stored byte': the range rule, and what it is for a table to agree with it. Assumes nothing.
+-- Paper 01, 'From code to stored byte', as request 03 of paper 02 mends it: the range rule, and what it is for a table to agree with it. Assumes nothing.
 use Prim.Native.Nat.{ℕ, _+_, _-_, _*_, _≤_, _<_}
 use mathlib.Core.Path.{_≡_}
 use mathlib.Core.Bool.{Bool, cond, _&&_, _||_}
@@ -34,11 +34,11 @@ storedCapital Normal code = code + 64
 storedCapital Inverse code = code - 64
 storedCapital MouseText code = code
 
--- $80-$FF: 'lose 128 in every mode'
+-- request 03: 'in inverse mode, $80 to $FF stored unchanged, with MouseText on or off. In normal mode they still lose 128'
 unfoldable pub storedHigh : Mode → ℕ → ℕ
 storedHigh Normal code = code - 128
-storedHigh Inverse code = code - 128
-storedHigh MouseText code = code - 128
+storedHigh Inverse code = code
+storedHigh MouseText code = code
 
 -- the rule; 'entries below $20 hold $A0 and are never stored'
 unfoldable pub storedByte : Mode → ℕ → ℕ

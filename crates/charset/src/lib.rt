@@ -1,5 +1,5 @@
-// From a code to the byte that is stored on the screen: paper 01, 'From code to stored byte'.
-// Where the documents differ, paper 01 decides: MouseText has no effect in normal mode, and codes 0x80 to 0xFF lose 128 in every mode.
+// From a code to the byte that is stored on the screen: paper 01, 'From code to stored byte', and paper 02, request 03.
+// Where the documents differ, these decide: MouseText has no effect in normal mode; codes 0x80 to 0xFF lose 128 in normal mode and are stored unchanged in inverse mode.
 pub mod table;
 
 use table::STORED;

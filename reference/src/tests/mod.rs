@@ -5,6 +5,7 @@ mod codes;
 mod examples;
 mod field_keys;
 mod field_refusals;
+mod high_codes;
 mod marks;
 mod marks_taking;
 mod modes;

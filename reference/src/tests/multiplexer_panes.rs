@@ -54,6 +54,37 @@ fn write_changes_one_port_and_its_pane() {
 }
 
 #[test]
+fn high_codes_go_by_the_mode_of_their_own_slot() {
+    // 7 in inverse mode, 200 in normal mode, then the other way round.
+    let mut multiplexer = start();
+    let mut screen = small().screen;
+    for (client, bytes) in [
+        (7, b"\x0F"),
+        (200, b"\xC1"),
+        (7, b"\xC1"),
+        (200, b"\x0F"),
+        (7, b"\x0E"),
+        (200, b"\xC1"),
+        (7, b"\xC1"),
+    ] {
+        let (status, after, bells) = write(multiplexer, &mut screen, client, bytes);
+        assert_eq!((status, bells), (0, 0));
+        multiplexer = after;
+    }
+    let mut end = start();
+    end.slots[0].port.state.cursor = Cursor { column: 10, line: 7 };
+    end.slots[0].port.marks = lines(6, 6);
+    end.slots[2].port.state.cursor = Cursor { column: 15, line: 5 };
+    end.slots[2].port.state.inverse = true;
+    end.slots[2].port.marks = lines(5, 5);
+    assert_eq!(multiplexer, end);
+    let cells = small().but(|c| {
+        c.rows([b"abc", b"d\xC1\x41", b"ghi"]).store(13, 5, 0x41).store(14, 5, 0xC1);
+    });
+    check_cells(&screen, &cells.screen);
+}
+
+#[test]
 fn erasing_and_moving_stay_in_the_pane() {
     check(&[0x03], [b"abc", b"..f", b"ghi"], lines(6, 6), 0, |_| {});
     check(&[0x1D], [b"abc", b"d..", b"ghi"], lines(6, 6), 0, |_| {});

@@ -52,6 +52,22 @@ fn a_few_bytes_whole_and_cut() {
 }
 
 #[test]
+fn high_code_in_each_mode() {
+    // $C1 in normal mode, inverse, with MouseText, without, normal again.
+    let input = [0xC1, 0x0F, 0xC1, 0x1B, 0xC1, 0x18, 0xC1, 0x0E, 0xC1];
+    let mut wanted = String::from("41c1c1c141");
+    wanted.push_str(&"a0".repeat(75));
+    wanted.push('\n');
+    for _ in 0..23 {
+        wanted.push_str(&"a0".repeat(80));
+        wanted.push('\n');
+    }
+    wanted.push_str("cursor 5 0 bells 0\n");
+    assert_eq!(run(&input, false), wanted);
+    assert_eq!(run(&input, true), wanted);
+}
+
+#[test]
 fn waiting_command_at_the_end_of_the_input() {
     assert_eq!(run(&[0x02, 0x2A, 0x25, 0x2C], false), run(b"", false));
     assert_eq!(run(&[0x02, 0x2A, 0x25, 0x2C], true), run(b"", false));

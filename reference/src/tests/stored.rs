@@ -1,39 +1,43 @@
-//! The stored byte at both ends of every range, in each mode.
+//! The stored byte of every code in each mode.
 
 use crate::stored::stored_byte;
 
-/// Code, then its byte in normal, inverse, and inverse with MouseText.
-const EDGES: [[u8; 4]; 16] = [
-    [0x00, 0xA0, 0xA0, 0xA0],
-    [0x1F, 0xA0, 0xA0, 0xA0],
+/// Table 9-1 from $20 on, a row for each 32 codes: the first code, then its
+/// byte in normal, inverse, and inverse with MouseText. The others of a row
+/// follow in order. The last four rows are the high codes.
+pub const ROWS: [[u8; 4]; 7] = [
     [0x20, 0xA0, 0x20, 0x20],
-    [0x3F, 0xBF, 0x3F, 0x3F],
     [0x40, 0x80, 0x00, 0x40],
-    [0x5F, 0x9F, 0x1F, 0x5F],
     [0x60, 0xE0, 0x60, 0x60],
-    [0x7F, 0xFF, 0x7F, 0x7F],
-    [0x80, 0x00, 0x00, 0x00],
-    [0x9F, 0x1F, 0x1F, 0x1F],
-    [0xA0, 0x20, 0x20, 0x20],
-    [0xBF, 0x3F, 0x3F, 0x3F],
-    [0xC0, 0x40, 0x40, 0x40],
-    [0xDF, 0x5F, 0x5F, 0x5F],
-    [0xE0, 0x60, 0x60, 0x60],
-    [0xFF, 0x7F, 0x7F, 0x7F],
+    [0x80, 0x00, 0x80, 0x80],
+    [0xA0, 0x20, 0xA0, 0xA0],
+    [0xC0, 0x40, 0xC0, 0xC0],
+    [0xE0, 0x60, 0xE0, 0xE0],
 ];
 
+/// One code with MouseText off and on: normal mode first, then inverse.
+fn check_code(code: u8, wanted: [u8; 4]) {
+    let normal = [stored_byte(code, false, false), stored_byte(code, false, true)];
+    let inverse = [stored_byte(code, true, false), stored_byte(code, true, true)];
+    assert_eq!([normal, inverse].concat(), wanted, "code {:02X}", code);
+}
+
 #[test]
-fn edges_of_each_range() {
-    for [code, normal, inverse, mousetext] in EDGES {
-        assert_eq!(stored_byte(code, false, false), normal, "code {:02X}", code);
-        assert_eq!(stored_byte(code, true, false), inverse, "code {:02X}", code);
-        assert_eq!(stored_byte(code, true, true), mousetext, "code {:02X}", code);
+fn every_code_in_each_mode() {
+    for code in 0x00..=0x1F {
+        check_code(code, [0xA0, 0xA0, 0xA0, 0xA0]);
+    }
+    for [code, normal, inverse, mousetext] in ROWS {
+        for step in 0..32 {
+            let wanted = [normal + step, normal + step, inverse + step, mousetext + step];
+            check_code(code + step, wanted);
+        }
     }
 }
 
 #[test]
-fn mousetext_alone_is_normal_mode() {
-    for [code, normal, _, _] in EDGES {
-        assert_eq!(stored_byte(code, false, true), normal, "code {:02X}", code);
+fn high_codes_unchanged_in_inverse_and_128_less_in_normal() {
+    for code in 0x80..=0xFF {
+        check_code(code, [code - 128, code - 128, code, code]);
     }
 }

@@ -7,7 +7,8 @@ use crate::port::parameters_needed;
 const WITH_PARAMETERS: [u8; 7] = [0x02, 0x05, 0x06, 0x10, 0x14, 0x15, 0x1E];
 
 impl Builder {
-    /// One of the 1024 pairs: a setting of the flags and a command under it.
+    /// One of the 1024 pairs of control code and flags: a setting of the
+    /// flags and a command under it.
     pub fn pair(&mut self, pair: u64) {
         let setting = (pair % 32) as u8;
         let code = (pair / 32 % 32) as u8;

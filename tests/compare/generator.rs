@@ -10,7 +10,7 @@ use crate::rng::Rng;
 /// A stream in pieces has the pair of control code and flags of its number
 /// modulo 1024. Of the numbers n and n + 1024 at least one is made in
 /// pieces, so 2048 streams reach every such pair. Printing codes in each
-/// mode are left to chance: a seed that misses one is reported.
+/// mode are left to chance: a run that misses one fails.
 pub fn stream(seed: u64, number: u64) -> Vec<u8> {
     let mut builder = Builder::new(Rng::new(seed, number));
     match number % 11 {

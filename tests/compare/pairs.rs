@@ -4,11 +4,13 @@
 
 use crate::port::{parameters_needed, Flags, Port, State};
 
+const CONTROL_CODES: usize = 0x20;
+const PRINTING_CODES: usize = 0x100 - CONTROL_CODES;
 const FLAG_SETTINGS: usize = 32;
 const MODE_SETTINGS: usize = 4;
 
-pub const CONTROL_PAIRS: usize = 32 * FLAG_SETTINGS;
-pub const ALL_PAIRS: usize = CONTROL_PAIRS + 224 * MODE_SETTINGS;
+pub const CONTROL_PAIRS: usize = CONTROL_CODES * FLAG_SETTINGS;
+pub const ALL_PAIRS: usize = CONTROL_PAIRS + PRINTING_CODES * MODE_SETTINGS;
 
 pub struct Pairs {
     /// For each code whether it was reached with each of its settings.
@@ -17,8 +19,9 @@ pub struct Pairs {
 
 impl Pairs {
     pub fn none() -> Pairs {
-        let settings = |code| if code < 0x20 { FLAG_SETTINGS } else { MODE_SETTINGS };
-        Pairs { reached: (0..256).map(|code| vec![false; settings(code)]).collect() }
+        let mut reached = vec![vec![false; FLAG_SETTINGS]; CONTROL_CODES];
+        reached.resize(CONTROL_CODES + PRINTING_CODES, vec![false; MODE_SETTINGS]);
+        Pairs { reached }
     }
 
     /// Notes the command that this byte completes or the code that it
@@ -35,13 +38,14 @@ impl Pairs {
         self.reached.iter().flatten().filter(|&&reached| reached).count()
     }
 
-    /// The code and setting of each pair not reached.
-    pub fn missing(&self) -> Vec<(usize, usize)> {
+    /// The code and setting of each pair not reached, in words.
+    pub fn missing(&self) -> Vec<String> {
         let mut missing = Vec::new();
         for (code, settings) in self.reached.iter().enumerate() {
+            let kind = if code < CONTROL_CODES { "flags" } else { "modes" };
             for (setting, &reached) in settings.iter().enumerate() {
                 if !reached {
-                    missing.push((code, setting));
+                    missing.push(format!("${:02X} with {} {}", code, kind, setting));
                 }
             }
         }

@@ -47,12 +47,8 @@ pub fn random(seed: u64, count: u64, console: &OsStr) -> bool {
     }
     let missing = pairs.missing();
     if !missing.is_empty() {
-        let named: Vec<String> = missing
-            .iter()
-            .take(NAMED)
-            .map(|(code, setting)| format!("${:02X} with {}", code, setting))
-            .collect();
-        println!("not reached, codes with settings: {}", named.join(", "));
+        let named = &missing[..missing.len().min(NAMED)];
+        println!("not reached: {}", named.join(", "));
     }
     if differing > 0 {
         println!("streams that differ: {}", differing);

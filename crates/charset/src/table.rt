@@ -1,5 +1,5 @@
 // The 768 stored bytes: three modes by 256 codes. The entries below 0x20 are never stored.
-// An entry that the papers give as an example names its code and the example.
+// Beside six entries: the code, and the example of the papers that it is.
 pub const STORED: [u8; 768] = [
     // Normal, codes 0x00 to 0x1F.
     0xA0,

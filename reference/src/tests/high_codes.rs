@@ -110,7 +110,8 @@ fn all_high_codes_with_mode_codes_between() {
 
 #[test]
 fn each_high_code_with_mode_codes_between() {
-    // No cell holds its new byte before: $55 is no high byte, a blank is one.
+    // No cell holds its byte beforehand: two get high bytes and hold $55, two
+    // get low bytes and hold blanks.
     let start = fresh().but(|c| {
         c.store(0, 0, 0x55).store(1, 0, 0x55);
     });

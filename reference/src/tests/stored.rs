@@ -34,10 +34,3 @@ fn every_code_in_each_mode() {
         }
     }
 }
-
-#[test]
-fn high_codes_unchanged_in_inverse_and_128_less_in_normal() {
-    for code in 0x80..=0xFF {
-        check_code(code, [code - 128, code - 128, code, code]);
-    }
-}

@@ -5,11 +5,11 @@ use super::stored::ROWS;
 use super::{check, fresh, fresh_in, rectangle, small, Console};
 use crate::port::State;
 
-/// The printing codes at both ends of every range, then their bytes.
-const ENDS: &[u8] = b"\x20\x3F\x40\x5F\x60\x7F\x80\x9F\xA0\xBF\xC0\xDF\xE0\xFF";
-const NORMAL: &[u8] = b"\xA0\xBF\x80\x9F\xE0\xFF\x00\x1F\x20\x3F\x40\x5F\x60\x7F";
-const INVERSE: &[u8] = b"\x20\x3F\x00\x1F\x60\x7F\x80\x9F\xA0\xBF\xC0\xDF\xE0\xFF";
-const MOUSETEXT: &[u8] = b"\x20\x3F\x40\x5F\x60\x7F\x80\x9F\xA0\xBF\xC0\xDF\xE0\xFF";
+/// The columns of `ROWS`.
+const CODE: usize = 0;
+const NORMAL: usize = 1;
+const INVERSE: usize = 2;
+const MOUSETEXT: usize = 3;
 
 /// A screen without a high byte, so that each unchanged high code is seen.
 fn low() -> Console {
@@ -37,20 +37,14 @@ fn printed(start: &Console, bytes: &[u8]) -> Console {
     })
 }
 
-fn high_codes() -> Vec<u8> {
-    (0x80..=0xFF).collect()
+/// The first and the last of every row, in one column.
+fn ends(column: usize) -> Vec<u8> {
+    ROWS.iter().flat_map(|row| [row[column], row[column] + 31]).collect()
 }
 
-/// The bytes of the high codes by one column of the rows: 1 is normal, 2
-/// inverse, 3 inverse with MouseText.
-fn high_bytes(column: usize) -> Vec<u8> {
-    let mut bytes = Vec::new();
-    for row in &ROWS[3..] {
-        for step in 0..32 {
-            bytes.push(row[column] + step);
-        }
-    }
-    bytes
+/// The high codes, or their bytes, in one column.
+fn high(column: usize) -> Vec<u8> {
+    ROWS[3..].iter().flat_map(|row| (0..32).map(move |step| row[column] + step)).collect()
 }
 
 #[test]
@@ -67,22 +61,24 @@ fn example_of_the_request() {
 
 #[test]
 fn ends_of_every_range_with_mode_codes_between() {
-    let stream = [ENDS, b"\x0F", ENDS, b"\x1B", ENDS, b"\x0E", ENDS, b"\x18", ENDS].concat();
-    let bytes = [NORMAL, INVERSE, MOUSETEXT, NORMAL, NORMAL].concat();
+    let codes = &ends(CODE)[..];
+    let [normal, inverse, mousetext] = [NORMAL, INVERSE, MOUSETEXT].map(ends);
+    let stream = [codes, b"\x0F", codes, b"\x1B", codes, b"\x0E", codes, b"\x18", codes].concat();
+    let bytes = [&normal[..], &inverse, &mousetext, &normal, &normal].concat();
     check(&fresh(), &stream, &printed(&fresh(), &bytes), 0);
     // MouseText on before inverse and off before normal.
-    let stream = [&[0x1B][..], ENDS, b"\x0F", ENDS, b"\x18", ENDS, b"\x0E", ENDS].concat();
-    let bytes = [NORMAL, MOUSETEXT, INVERSE, NORMAL].concat();
+    let stream = [&[0x1B][..], codes, b"\x0F", codes, b"\x18", codes, b"\x0E", codes].concat();
+    let bytes = [&normal[..], &mousetext, &inverse, &normal].concat();
     check(&fresh(), &stream, &printed(&fresh(), &bytes), 0);
 }
 
 #[test]
 fn all_high_codes_in_inverse() {
-    let stream = [&[0x0F][..], &high_codes()].concat();
-    let end = in_mode(printed(&low(), &high_bytes(2)), true, false);
+    let stream = [&[0x0F][..], &high(CODE)].concat();
+    let end = in_mode(printed(&low(), &high(INVERSE)), true, false);
     check(&low(), &stream, &end, 0);
-    let stream = [&[0x0F, 0x1B][..], &high_codes()].concat();
-    let end = in_mode(printed(&low(), &high_bytes(3)), true, true);
+    let stream = [&[0x0F, 0x1B][..], &high(CODE)].concat();
+    let end = in_mode(printed(&low(), &high(MOUSETEXT)), true, true);
     check(&low(), &stream, &end, 0);
 }
 
@@ -90,19 +86,20 @@ fn all_high_codes_in_inverse() {
 fn all_high_codes_in_normal() {
     // From inverse, so that $0E is what makes the difference.
     let start = in_mode(fresh(), true, true);
-    let end = printed(&fresh(), &high_bytes(1));
-    let stream = [&[0x0E][..], &high_codes()].concat();
+    let end = printed(&fresh(), &high(NORMAL));
+    let stream = [&[0x0E][..], &high(CODE)].concat();
     check(&start, &stream, &in_mode(end.clone(), false, true), 0);
-    let stream = [&[0x0E, 0x18][..], &high_codes()].concat();
+    let stream = [&[0x0E, 0x18][..], &high(CODE)].concat();
     check(&start, &stream, &end, 0);
 }
 
 #[test]
 fn all_high_codes_with_mode_codes_between() {
-    let high = &high_codes()[..];
+    let codes = &high(CODE)[..];
+    let [normal, inverse, mousetext] = [NORMAL, INVERSE, MOUSETEXT].map(high);
     // Normal, inverse, with MouseText, normal with it, inverse without it.
-    let stream = [high, b"\x0F", high, b"\x1B", high, b"\x0E", high, b"\x18\x0F", high].concat();
-    let [normal, inverse, mousetext] = [high_bytes(1), high_bytes(2), high_bytes(3)];
+    let stream =
+        [codes, b"\x0F", codes, b"\x1B", codes, b"\x0E", codes, b"\x18\x0F", codes].concat();
     let bytes = [&normal[..], &inverse, &mousetext, &normal, &inverse].concat();
     let end = in_mode(printed(&fresh(), &bytes), true, false);
     check(&fresh(), &stream, &end, 0);

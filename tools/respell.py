@@ -69,7 +69,7 @@ def snake(name):
 def imports(text):
     """Names that a file takes from elsewhere: those of a library, those of this repository."""
     lib, own = set(), set()
-    for m in re.finditer(r"(?m)^(?:ghost )?use ([^\s{;]+)(?:\.\{([^}]*)\})?", text):
+    for m in re.finditer(r"(?m)^(?:ghost )?use ([^\s{;]+?)(?:\.\{([^}]*)\})?;?$", text):
         names = {n.strip() for n in (m.group(2) or "").split(",") if n.strip()}
         here = m.group(1).startswith("Rattle.") and os.path.isdir(os.path.join("crates", m.group(1).split(".")[1]))
         (own if here else lib).update(names)

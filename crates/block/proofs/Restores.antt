@@ -4,7 +4,7 @@ use mathlib.Core.Path.{◌≡◌, refl, sym, ◌∙◌}
 use mathlib.Core.Logic.{⊎_elim}
 use mathlib.Core.List.{List}
 use native.Mathlib.Omega.{arith}
-use lib.ListN.{length, get_or, get_or_eq_default}
+use lib.ListN.{length, get_or, get_or-eq_default}
 use lib.Seq.{ext_get_or}
 use Rattle.laws.specs.Tabulate.{length_tabulate, get_d_tabulate}
 use Rattle.laws.proofs.Tests.{below?, by_test}
@@ -32,7 +32,7 @@ module _ (r : Rect) (block s : List ℕ) where
   restored_outside l i out =
       ⊎_elim
       (λ h. get_d_tabulate 1920 _ i h ∙ by_test (λ b. b ≡ get_or s i 0) (inside r i) (λ e. absurd (out ((decides_inside r i).holds e))) (λ e. refl))
-      (λ h. get_or_eq_default (restored r block s) 0 {n = i} (omega (arith, length_restored)) ∙ sym (get_or_eq_default s 0 (omega arith)))
+      (λ h. get_or-eq_default (restored r block s) 0 {n = i} (omega (arith, length_restored)) ∙ sym (get_or-eq_default s 0 (omega arith)))
       (below? i 1920)
 
 -- a block handed out and put straight back changes nothing

@@ -2,7 +2,7 @@
 use Prim.Native.Nat.{ℕ, ◌≤◌, ◌<◌}
 use mathlib.Core.Path.{◌≡◌, refl, sym}
 use mathlib.Core.List.{List, [], ◌∷◌, ◌++◌}
-use borrow.Author.Tests.{lt_ltb, le_ltb}
+use borrow.Author.Tests.{lt-ltb, le-ltb}
 use lib.ListN.{length, set, take, drop}
 use lib.Seq.{sets-eq}
 use denote.Ref.{Bor}
@@ -30,25 +30,25 @@ numbers_stored s status state read beeps number key ending is_number is_key h = 
 module _ (width maximum : ℕ) (default b answer : List ℕ) where
   pub start_short : length answer < 6 → Runs (start_run width maximum default b answer) 0 b answer
   unfolding start_run
-  start_short h = rw (lt_ltb (length answer) 6 h) (record { size_is = refl; lent_is = refl; answer_is = refl })
+  start_short h = rw (lt-ltb (length answer) 6 h) (record { size_is = refl; lent_is = refl; answer_is = refl })
 
   pub start_runs : (r : StartAnswer) (b' after : List ℕ) → 6 ≤ length answer → Replies (start_call width maximum default b) r b' → after ≡ numbers_of r.status r.state 0 0 None ++ drop 6 answer
       → Runs (start_run width maximum default b answer) 6 b' after
   unfolding start_run
   start_runs r b' after room replies laid =
-      rw (le_ltb (length answer) 6 room, sym replies.answer_is) (record { size_is = refl; lent_is = replies.bytes; answer_is = laid })
+      rw (le-ltb (length answer) 6 room, sym replies.answer_is) (record { size_is = refl; lent_is = replies.bytes; answer_is = laid })
 
   module _ (state : State) (keys : List ℕ) where
     pub keys_short : length answer < 6 → Runs (keys_run width maximum default b state keys answer) 0 b answer
     unfolding keys_run
-    keys_short h = rw (lt_ltb (length answer) 6 h) (record { size_is = refl; lent_is = refl; answer_is = refl })
+    keys_short h = rw (lt-ltb (length answer) 6 h) (record { size_is = refl; lent_is = refl; answer_is = refl })
 
     pub keys_runs : (r : KeysAnswer) (b' after : List ℕ) → 6 ≤ length answer → Replies (keys_call width maximum default b state keys) r b'
         → after ≡ numbers_of r.status r.state r.read r.beeps r.ending ++ drop 6 answer
         → Runs (keys_run width maximum default b state keys answer) 6 b' after
     unfolding keys_run
     keys_runs r b' after room replies laid =
-        rw (le_ltb (length answer) 6 room, sym replies.answer_is) (record { size_is = refl; lent_is = replies.bytes; answer_is = laid })
+        rw (le-ltb (length answer) 6 room, sym replies.answer_is) (record { size_is = refl; lent_is = replies.bytes; answer_is = laid })
 
 -- the bytes of a part that was handed back
 text_bytes_lem : (part : Part) (default buffer r : Bor (List ℕ)) → IsText part default buffer r → r.now ≡ text_bytes part default.now buffer.now
@@ -62,10 +62,10 @@ module _ (width maximum : ℕ) (state : State) (key : ℕ) (ending : Ending) (de
 
   pub text_short : length answer < length r.now → Runs (text_run width maximum default.now buffer.now state key answer) 0 buffer.now answer
   unfolding text_run
-  text_short h = rw (bytes, lt_ltb (length answer) (length r.now) h) (record { size_is = refl; lent_is = refl; answer_is = refl })
+  text_short h = rw (bytes, lt-ltb (length answer) (length r.now) h) (record { size_is = refl; lent_is = refl; answer_is = refl })
 
   pub text_runs : (n : ℕ) (after : List ℕ) → length r.now ≤ length answer → n ≡ length r.now → after ≡ take (length r.now) r.now ++ drop (length r.now) answer
       → Runs (text_run width maximum default.now buffer.now state key answer) n buffer.now after
   unfolding text_run
   text_runs n after h size copied =
-      rw (bytes, le_ltb (length answer) (length r.now) h) (record { size_is = size; lent_is = refl; answer_is = copied_laid r.now answer after copied })
+      rw (bytes, le-ltb (length answer) (length r.now) h) (record { size_is = size; lent_is = refl; answer_is = copied_laid r.now answer after copied })

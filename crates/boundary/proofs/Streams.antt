@@ -2,7 +2,7 @@
 use Prim.Native.Nat.{ℕ, ◌≤◌, ◌<◌}
 use mathlib.Core.Path.{◌≡◌, refl, sym, subst}
 use mathlib.Core.List.{List, [], ◌∷◌, ◌++◌}
-use borrow.Author.Tests.{eq-eqb, ne_eqb, lt_ltb, le_ltb}
+use borrow.Author.Tests.{eq-eqb, ne_eqb, lt-ltb, le-ltb}
 use lib.ListN.{length, drop}
 use Rattle.session.specs.declared.Session.{Session}
 use Rattle.session.specs.Session.{fresh_session, Fed, FedIfAny}
@@ -14,11 +14,11 @@ module _ (s answer : List ℕ) where
   -- no room, and room
   no_room : (end : Session) (t : List ℕ) → length answer < 12 → Runs (ends_in s answer end t) 0 s answer
   unfolding ends_in
-  no_room end t short = simp (lt_ltb (length answer) 12 short) (record { size_is = refl; lent_is = refl; answer_is = refl })
+  no_room end t short = simp (lt-ltb (length answer) 12 short) (record { size_is = refl; lent_is = refl; answer_is = refl })
 
   room : (end : Session) (t after : List ℕ) → 12 ≤ length answer → after ≡ end_of end ++ drop 12 answer → Runs (ends_in s answer end t) 12 t after
   unfolding ends_in
-  room end t after enough laid = simp (le_ltb (length answer) 12 enough) (record { size_is = refl; lent_is = refl; answer_is = laid })
+  room end t after enough laid = simp (le-ltb (length answer) 12 enough) (record { size_is = refl; lent_is = refl; answer_is = laid })
 
   module _ (bytes : List ℕ) (size : ℕ) where
     pub no_size : size ≡ 0 → Runs (stream_run bytes size s answer) 0 s answer

@@ -4,7 +4,7 @@ use mathlib.Core.Path.{◌≡◌, ap, ◌∙◌}
 use mathlib.Core.List.{List, ◌++◌}
 use lib.ListN.{length, take, drop}
 use lib.Seq.{take_at}
-use borrow.Author.Tests.{le_ltb}
+use borrow.Author.Tests.{le-ltb}
 use Rattle.rectangle.specs.declared.Rect.{Rect}
 use Rattle.block.specs.Block.{block_length, block_of}
 use Rattle.block.proofs.Rows.{length_block, block_fits_lem}
@@ -25,7 +25,7 @@ module _ (p : Port) (s block : List ℕ) (v : ValidPort p) (len : length s ≡ 1
 
   pub handed_out_lem : block_returned p s block ≡ handed_out
   unfolding block_returned
-  handed_out_lem = rw (le_ltb (length block) (block_length rect) room)
+  handed_out_lem = rw (le-ltb (length block) (block_length rect) room)
 
   -- what a restore of the block in front leaves: the screen as it was, and the port but for its marks
   abbrev pub put_back : PortReply

@@ -6,7 +6,7 @@ use mathlib.Core.List.{List, [], ◌++◌}
 use native.Mathlib.Omega.{arith}
 use lib.Dec.{eqb}
 use lib.ListN.{length, drop, get_or}
-use borrow.Author.Tests.{eqb-true, lt_ltb, le_ltb}
+use borrow.Author.Tests.{eqb-true, lt-ltb, le-ltb}
 use Rattle.laws.proofs.Tests.{and_left}
 use Rattle.rectangle.specs.declared.Rect.{Rect}
 use Rattle.rectangle.specs.Rectangles.{width_of, height_of}
@@ -39,12 +39,12 @@ module _ (p : Port) (s : List ℕ) (a : Answer) where
       → a ≡ answer_of Done p n → Replies (block_returned p s block) a.status a.port a.count s after
   unfolding block_returned
   replies_returned block after n size room copied is =
-      rw (is, le_ltb (length block) (block_length p.view.viewport) (omega arith)) (record { status_is = refl; state_is = refl; result_is = size; cells = refl; bytes = copied })
+      rw (is, le-ltb (length block) (block_length p.view.viewport) (omega arith)) (record { status_is = refl; state_is = refl; result_is = size; cells = refl; bytes = copied })
 
   pub replies_short : (block : List ℕ) (n : ℕ) → n ≡ block_length p.view.viewport → length block < n → a ≡ answer_of BlockTooShort p 0 → Replies (block_returned p s block) a.status a.port a.count s block
   unfolding block_returned
   replies_short block n size short is =
-      rw (is, lt_ltb (length block) (block_length p.view.viewport) (omega arith)) (record { status_is = refl; state_is = refl; result_is = refl; cells = refl; bytes = refl })
+      rw (is, lt-ltb (length block) (block_length p.view.viewport) (omega arith)) (record { status_is = refl; state_is = refl; result_is = refl; cells = refl; bytes = refl })
 
   pub replies_restored : (block t : List ℕ) (fits : Bool) (q : Port) (marks : ℕ) → fits ≡ block_fits p.view.viewport block → fits ≡ true → t ≡ restored p.view.viewport block s → marks ≡ marked_in p.marks p.view.viewport → q ≡ with_marks p marks → a ≡ answer_of Done q 0
       → Replies (block_restored p s block) a.status a.port a.count t block

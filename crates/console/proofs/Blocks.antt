@@ -4,7 +4,7 @@ use mathlib.Core.Path.{◌≡◌, ap, ◌∙◌}
 use mathlib.Core.List.{List}
 use native.Mathlib.Omega.{arith}
 use lib.ListN.{length, take}
-use borrow.Author.Tests.{lt_ltb}
+use borrow.Author.Tests.{lt-ltb}
 use Rattle.laws.specs.Parts.{Stretch, bytes_of}
 use Rattle.rectangle.specs.Rectangles.{width_of, height_of}
 use Rattle.screen.proofs.Sizes.{decides_screen}
@@ -43,7 +43,7 @@ module _ (p : Port) (s block : List ℕ) (v : ValidPort p) (len : length s ≡ 1
 module _ (p : Port) (s : List ℕ) (row : ℕ) (v : ValidPort p) (len : length s ≡ 1920) (low : row < height_of p.view.viewport) where
   pub row_shown : row_call p (length s) row ≡ row_stretch p.view.viewport row
   unfolding row_call
-  row_shown = simp ((decides_screen (length s)).passes len, (decides_valid p).passes v, lt_ltb row (height_of p.view.viewport) low)
+  row_shown = simp ((decides_screen (length s)).passes len, (decides_valid p).passes v, lt-ltb row (height_of p.view.viewport) low)
 
   -- not a column short
   pub row_width : length (bytes_of (row_call p (length s) row) s) ≡ width_of p.view.viewport

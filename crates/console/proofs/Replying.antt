@@ -5,7 +5,7 @@ use mathlib.Core.Bool.{Bool, true, false, cond, ◌&&◌}
 use mathlib.Core.List.{List, []}
 use native.Mathlib.Omega.{arith}
 use lib.ListN.{length}
-use borrow.Author.Tests.{lt_ltb, le_ltb}
+use borrow.Author.Tests.{lt-ltb, le-ltb}
 use denote.Ref.{Bor}
 use Rattle.laws.specs.Parts.{no_stretch, IsPart}
 use Rattle.laws.proofs.Tests.{and_both}
@@ -70,11 +70,11 @@ module _ (p : Port) (s : List ℕ) (j : Verdict) (is : j ≡ plain_verdict p (le
 
   past_row : (row n : ℕ) → j ≡ Accepted → n ≡ height_of p.view.viewport → n ≤ row → row_call p (length s) row ≡ no_stretch
   unfolding row_call
-  past_row row n e h far = simp (good e, le_ltb row (height_of p.view.viewport) (omega arith))
+  past_row row n e h far = simp (good e, le-ltb row (height_of p.view.viewport) (omega arith))
 
   a_row : (row n : ℕ) → j ≡ Accepted → n ≡ height_of p.view.viewport → row < n → row_call p (length s) row ≡ row_stretch p.view.viewport row
   unfolding row_call
-  a_row row n e h small = simp (good e, lt_ltb row (height_of p.view.viewport) (omega arith))
+  a_row row n e h small = simp (good e, lt-ltb row (height_of p.view.viewport) (omega arith))
 
 -- ---- a taking, which needs no screen
 module _ (p : Port) (j : Verdict) (is : j ≡ port_verdict p) where

@@ -3,7 +3,7 @@ use Prim.Native.Nat.{ℕ, zero, suc, ◌+◌, ◌≤◌, ◌<◌}
 use mathlib.Core.Path.{◌≡◌, refl, sym, ap, ◌∙◌, subst}
 use mathlib.Core.List.{List, []}
 use native.Mathlib.Omega.{arith}
-use borrow.Author.Tests.{lt_ltb, le_ltb, ne_eqb}
+use borrow.Author.Tests.{lt-ltb, le-ltb, ne_eqb}
 use Rattle.rectangle.specs.declared.Rect.{Rect}
 use Rattle.rectangle.specs.Edit.{draw}
 use Rattle.marks.specs.Marks.{marked_by}
@@ -144,11 +144,11 @@ last_command p code b none h =
 module _ (p : Port) (a : Active) (b n : ℕ) (takes : n ≡ parameters a.waiting) where
   pub is_gathered : {r : Active} {s : List ℕ} → a.count + 1 < n → r ≡ gather_one a b → Obeyed (parameter (with_active p a) b) (with_active p r) s s
   unfolding parameter draw
-  is_gathered more e = simp (lt_ltb (a.count + 1) (parameters a.waiting) (omega arith)) (record { port_is = ap (with_active p) e; cells = refl })
+  is_gathered more e = simp (lt-ltb (a.count + 1) (parameters a.waiting) (omega arith)) (record { port_is = ap (with_active p) e; cells = refl })
 
   pub is_last : {x : Port} {s t : List ℕ} → n ≤ a.count + 1 → Obeyed (perform (with_active p a) a.waiting b) x s t → Obeyed (parameter (with_active p a) b) x s t
   unfolding parameter
-  is_last last h = simp (le_ltb (a.count + 1) (parameters a.waiting) (omega arith)) h
+  is_last last h = simp (le-ltb (a.count + 1) (parameters a.waiting) (omega arith)) h
 
 -- a byte is a control code or a parameter
 module _ (p : Port) (b : ℕ) {x : Port} {s t : List ℕ} where
@@ -157,6 +157,6 @@ module _ (p : Port) (b : ℕ) {x : Port} {s t : List ℕ} where
 
   pub is_parameter : 0 < parameters p.waiting → Obeyed (parameter p b) x s t → Obeyed (step p b) x s t
   unfolding step
-  is_parameter some h = simp (lt_ltb 0 (parameters p.waiting) some) h
+  is_parameter some h = simp (lt-ltb 0 (parameters p.waiting) some) h
 
 pub ruleset commands = (at_command, performed_view, performed_effect, performed_size, performed_spaces)

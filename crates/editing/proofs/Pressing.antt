@@ -4,7 +4,7 @@ use mathlib.Core.Path.{◌≡◌, refl, sym, ◌∙◌}
 use mathlib.Core.Bool.{Bool, true, false, ◌||◌}
 use mathlib.Core.List.{List, [], ◌∷◌}
 use native.Mathlib.Omega.{arith}
-use borrow.Author.Tests.{eq-eqb, ne_eqb, lt_ltb, le_ltb}
+use borrow.Author.Tests.{eq-eqb, ne_eqb, lt-ltb, le-ltb}
 use lib.ListN.{length, take}
 use lib.Seq.{length-take-le, take-take}
 use Rattle.editing.specs.declared.State.{State}
@@ -46,7 +46,7 @@ module _ (state : State) (b : List ℕ) (fits : state.length ≤ length b) where
   module _ (width maximum key : ℕ) (r : Pressed) where
     pub insert_full : maximum < state.length + 1 → r ≡ beeped state → Presses (insert width maximum (content_of state b) key) b r b
     unfolding insert
-    insert_full h e = rw (len, lt_ltb _ _ h) (beeps e)
+    insert_full h e = rw (len, lt-ltb _ _ h) (beeps e)
 
     pub insert_at_width : state.cursor ≡ width → r ≡ beeped state → Presses (insert width maximum (content_of state b) key) b r b
     unfolding insert
@@ -57,7 +57,7 @@ module _ (state : State) (b : List ℕ) (fits : state.length ≤ length b) where
         → Presses (insert width maximum (content_of state b) key) b r b'
     unfolding insert
     insert_done b' within room left e bytes =
-        rw (len, le_ltb _ _ room, ne_eqb _ _ left) (edits (inserted state.cursor key text) (state.length + 1) (state.cursor + 1) e (length_inserted text state.cursor key (rw len within) ∙ rw len) bytes)
+        rw (len, le-ltb _ _ room, ne_eqb _ _ left) (edits (inserted state.cursor key text) (state.length + 1) (state.cursor + 1) e (length_inserted text state.cursor key (rw len within) ∙ rw len) bytes)
 
   module _ (r : Pressed) where
     pub left_edge : state.cursor ≡ 0 → r ≡ beeped state → Presses (move_left (content_of state b)) b r b

@@ -9,7 +9,7 @@ use native.Mathlib.Nat.{add_assoc, add-zero, zero-add}
 use lib.Dec.{ltb, eqb}
 use lib.ListN.{length, take, drop, get_or, take-append-drop}
 use lib.Seq.{drop-drop, drop-length}
-use borrow.Author.Tests.{eqb-true, eqb-false, eq-eqb, ne_eqb, leb-true, leb-false, lt_ltb}
+use borrow.Author.Tests.{eqb-true, eqb-false, eq-eqb, ne_eqb, leb-true, leb-false, lt-ltb}
 use Rattle.laws.proofs.Tests.{by_test, and_left, and_right}
 use Rattle.laws.proofs.Lists.{alone_taken}
 use Rattle.rectangle.specs.declared.Rect.{Rect}
@@ -116,7 +116,7 @@ rung_by p b h {n} is = ⊎_elim nothing something h.wait.known ∙ sym (step_bel
 
     something : 0 < parameters p.waiting → By p.waiting
     something some =
-        simp (lt_ltb 0 (parameters p.waiting) some) (rw (ne_eqb p.waiting 0 (λ e. no_parameters_lem p.waiting e some)) at is)
+        simp (lt-ltb 0 (parameters p.waiting) some) (rw (ne_eqb p.waiting 0 (λ e. no_parameters_lem p.waiting e some)) at is)
 
 pub at_most_one : (waiting b : ℕ) {n : ℕ} → n ≡ cond (eqb waiting 0 && eqb b 7) 1 0 → n ≤ 1
 at_most_one waiting b {n} is = subst (λ (k : ℕ). k ≤ 1) (sym is) (by_test (λ (k : ℕ). k ≤ 1) (eqb waiting 0 && eqb b 7) (λ _. omega arith) (λ _. omega arith))

@@ -5,7 +5,7 @@ use mathlib.Core.Path.{◌≡◌, refl, sym, ap, ◌∙◌}
 use mathlib.Core.Bool.{◌||◌}
 use mathlib.Core.Logic.{◌⊎◌, inl, inr, ⊎_elim}
 use mathlib.Core.List.{List, [], ◌∷◌}
-use borrow.Author.Tests.{le_ltb}
+use borrow.Author.Tests.{le-ltb}
 use lib.Dec.{ltb}
 use lib.ListN.{length}
 use Rattle.laws.proofs.Tests.{by_test, decides_lt, fails}
@@ -62,7 +62,7 @@ module _ (width maximum default buffer : ℕ) (state : State) where
   unfolding start_verdict
   start_accepts s =
       let sizes = fails (decides_sizes width maximum) (λ out. ⊎_elim (λ w. ⊎_elim (λ h. omega (arith, s)) (λ h. omega (arith, s)) w) (λ m. ⊎_elim (λ h. omega (arith, s)) (λ h. omega (arith, s)) m) out) in
-      rw (sizes, le_ltb buffer maximum s.room, le_ltb maximum default s.default_fits)
+      rw (sizes, le-ltb buffer maximum s.room, le-ltb maximum default s.default_fits)
 
   pub keys_accepts : Sized width maximum default buffer → Within width maximum state → keys_verdict width maximum default buffer state ≡ Accepted
   unfolding keys_verdict state_verdict first_of

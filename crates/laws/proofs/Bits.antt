@@ -5,7 +5,7 @@ use mathlib.Core.Bool.{Bool, true, false, cond, ◌&&◌, ◌||◌, true≢false
 use native.Mathlib.Omega.{arith}
 use native.Mathlib.Nat.{pow-suc}
 use lib.Dec.{leb, ltb, eqb, leb-zero, leb-suc-zero, leb-suc-suc}
-use borrow.Author.Tests.{lt_ltb}
+use borrow.Author.Tests.{lt-ltb}
 use lib.Bits.{bit_or, or_step, or_shr}
 use lib.Count.{ones, ones_in, ones_step}
 use lib.Pow.{pow_pos, shr-shr}
@@ -95,7 +95,7 @@ half_stretch (suc low) (suc end) = let d = pow-suc 2 low in let e = pow-suc 2 en
 
 odd_stretch : (low end : ℕ) → eqb ((2 ^ end - 2 ^ low) % 2) 1 ≡ (leb low 0 && ltb 0 end)
 odd_stretch zero zero = refl
-odd_stretch zero (suc end) = let e = pow-suc 2 end in let h = pow_pos end in let one : (2 ^ suc end - 1) % 2 ≡ 1 = omega arith in ap (λ (x : ℕ). eqb x 1) one ∙ sym (lt_ltb 0 (suc end) (omega arith))
+odd_stretch zero (suc end) = let e = pow-suc 2 end in let h = pow_pos end in let one : (2 ^ suc end - 1) % 2 ≡ 1 = omega arith in ap (λ (x : ℕ). eqb x 1) one ∙ sym (lt-ltb 0 (suc end) (omega arith))
 odd_stretch (suc low) zero = let e = pow-suc 2 low in let h = pow_pos low in let none : (1 - 2 ^ suc low) % 2 ≡ 0 = omega arith in ap (λ (x : ℕ). eqb x 1) none ∙ ap (λ (t : Bool). t && ltb 0 0) (sym (leb-suc-zero low))
 odd_stretch (suc low) (suc end) = let d = pow-suc 2 low in let e = pow-suc 2 end in let none : (2 ^ suc end - 2 ^ suc low) % 2 ≡ 0 = omega arith in ap (λ (x : ℕ). eqb x 1) none ∙ ap (λ (t : Bool). t && ltb 0 (suc end)) (sym (leb-suc-zero low))
 

@@ -3,7 +3,7 @@
 use mathlib.Core.Path.{◌≡◌, sym, ap, ◌∙◌}
 use mathlib.Core.Bool.{Bool, true, false, cond, not}
 use mathlib.Core.List.{List, ◌++◌}
-use borrow.Author.Tests.{lt_ltb, le_ltb, eq-eqb, ne_eqb}
+use borrow.Author.Tests.{lt-ltb, le-ltb, eq-eqb, ne_eqb}
 
 pub taken : {A : Type 0} {x : A} (t : Bool) (a b : A) → t ≡ true → x ≡ a → x ≡ cond t a b
 taken t a b h e = rw h e
@@ -16,7 +16,7 @@ pub appended : {A : Type 0} {x : List A} (t : Bool) (a b c : List A) → x ≡ c
 appended true a b c e = e
 appended false a b c e = e
 
-pub ruleset choices = (taken, passed, lt_ltb, le_ltb, eq-eqb, ne_eqb)
+pub ruleset choices = (taken, passed, lt-ltb, le-ltb, eq-eqb, ne_eqb)
 
 -- a test, and its negation, by what a function answered
 pub same_test : (answer t b : Bool) → answer ≡ t → answer ≡ b → t ≡ b

@@ -5,7 +5,7 @@ use mathlib.Core.Bool.{Bool, true, false, cond, not, ◌&&◌, ◌||◌}
 use mathlib.Core.Logic.{◌⊎◌, inl, inr, ⊎_elim}
 use native.Mathlib.Omega.{arith}
 use lib.Dec.{ltb, leb, eqb}
-use borrow.Author.Tests.{ltb-true, ltb-false, leb-true, eqb-true, lt_ltb, le_ltb, le-leb, eq-eqb, not-true}
+use borrow.Author.Tests.{ltb-true, ltb-false, leb-true, eqb-true, lt-ltb, le-ltb, le-leb, eq-eqb, not-true}
 
 -- a test, with what it shows
 pub tested : (t : Bool) → (t ≡ true) ⊎ (t ≡ false)
@@ -57,7 +57,7 @@ pub record Decides (t : Bool) (P : Type 0) : Type 0 where
   pub passes : P → t ≡ true
 
 pub decides_lt : (a b : ℕ) → Decides (ltb a b) (a < b)
-decides_lt a b = record { holds = ltb-true a b; passes = lt_ltb a b }
+decides_lt a b = record { holds = ltb-true a b; passes = lt-ltb a b }
 
 pub decides_le : (a b : ℕ) → Decides (leb a b) (a ≤ b)
 decides_le a b = record { holds = leb-true a b; passes = le-leb a b }
@@ -110,7 +110,7 @@ decides_else {t} {u} d e = record {
 -- a is below b, or else a fact holds
 pub decides_unless : (a b : ℕ) {u : Bool} {Q : Type 0} → Decides u Q → Decides (ltb a b || u) (b ≤ a → Q)
 decides_unless a b {u} d = record {
-  holds = λ k h. d.holds (rw (le_ltb a b h) at k);
+  holds = λ k h. d.holds (rw (le-ltb a b h) at k);
   passes = λ q. ⊎_elim (λ e. rw e) (λ e. rw e (d.passes (q (ltb-false a b e)))) (tested (ltb a b));
 }
 

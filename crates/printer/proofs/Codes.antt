@@ -6,7 +6,7 @@ use mathlib.Core.List.{List, [], ◌∷◌, ◌++◌, append-nil}
 use native.Mathlib.Omega.{arith}
 use native.Mathlib.Nat.{add-zero}
 use lib.ListN.{length, get_or, take, drop}
-use borrow.Author.Tests.{lt_ltb}
+use borrow.Author.Tests.{lt-ltb}
 use Rattle.laws.proofs.Lists.{alone_taken, taken_length}
 use Rattle.rectangle.specs.declared.Edit.{Edit}
 use Rattle.rectangle.specs.declared.Motion.TheVariants.{Clear}
@@ -98,7 +98,7 @@ one_printed v u before w after bytes from n byte s s₁ t few run inside large i
 -- left of the right edge the cursor goes one to the right
 advances : (v : View) → v.flags.advance ≡ true → v.column < v.viewport.right → advance v ≡ becomes (cursor_at v (v.column + 1) v.line)
 unfolding advance move_cursor_right
-advances v on less = simp (on, lt_ltb v.column v.viewport.right less)
+advances v on less = simp (on, lt-ltb v.column v.viewport.right less)
 
 prints_left : (v : View) (byte marks : ℕ) (s : List ℕ) → v.flags.advance ≡ true → v.column < v.viewport.right
     → Drew (print_byte v byte) marks (cursor_at v (v.column + 1) v.line) (marked marks v.line v.line) s (edited (cell_at v.column v.line) Clear byte s)

@@ -5,7 +5,7 @@ use mathlib.Core.Logic.{⊎_elim}
 use mathlib.Core.List.{List, [], ◌∷◌, ◌++◌}
 use native.Mathlib.Omega.{arith}
 use borrow.Author.Rules.{rules}
-use lib.ListN.{length, get_or, get_or_eq_default}
+use lib.ListN.{length, get_or, get_or-eq_default}
 use lib.Seq.{ext_get_or}
 use Rattle.laws.specs.Tabulate.{length_tabulate, get_d_tabulate}
 use Rattle.laws.proofs.Tests.{below?}
@@ -29,7 +29,7 @@ module _ (r : Rect) (m : Motion) (fill : ℕ) (s : List ℕ) where
   edited_at = get_d_tabulate 1920 _
 
   edited_past : (i : ℕ) → 1920 ≤ i → get_or (edited r m fill s) i 0 ≡ 0
-  edited_past i h = get_or_eq_default (edited r m fill s) 0 {n = i} (omega (arith, length_edited))
+  edited_past i h = get_or-eq_default (edited r m fill s) 0 {n = i} (omega (arith, length_edited))
 
 -- rectangles within rectangles
 pub within_inside : {r q : Rect} {i : ℕ} → Within r q → Inside r i → Inside q i
@@ -82,7 +82,7 @@ edit_local r q m fill w right bottom =
       len = λ s l. length_edited r m fill s;
       outside = λ s l i out. ⊎_elim
           (λ h. edited_at r m fill s i h ∙ cell_outside r m fill _ i (λ x. out (within_inside w x)))
-          (λ h. edited_past r m fill s i h ∙ sym (get_or_eq_default s 0 (omega arith)))
+          (λ h. edited_past r m fill s i h ∙ sym (get_or-eq_default s 0 (omega arith)))
           (below? i 1920);
       same = λ s t l l' agree i h.
           edited_at r m fill s i (omega arith)

@@ -1,7 +1,7 @@
 -- `view::erase::clear_from_port_start` meets its contract: the lines above are erased first where there are any, and its own line in either case. Assumes nothing.
 use Prim.Native.Nat.{◌-◌, ◌<◌}
 use mathlib.Core.Path.{◌≡◌}
-use borrow.Author.Tests.{lt_ltb}
+use borrow.Author.Tests.{lt-ltb}
 use borrow.Author.Rules.{rules}
 use Rattle.laws.proofs.Choices.{choices, appended}
 use Rattle.rectangle.specs.declared.Rect.{Rect}
@@ -22,7 +22,7 @@ both-erased : (v : View) {r : ViewPlan} {own others : Edit} {span lines : Rect} 
     → v.viewport.top < v.line
     → plan_effect r ≡ clear_from_port_start v
 unfolding clear_from_port_start clear_lines_above
-both-erased v p q w o m some = simp (lt_ltb _ _ some) (plan_two p (erase_of v q w) (erase_of v o m))
+both-erased v p q w o m some = simp (lt-ltb _ _ some) (plan_two p (erase_of v q w) (erase_of v o m))
 
 line-span-requires : tie.Need-line-span-requires
 line-span-requires c κs = search rules

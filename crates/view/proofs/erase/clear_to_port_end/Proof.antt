@@ -1,7 +1,7 @@
 -- `view::erase::clear_to_port_end` meets its contract: its own line is erased first in either case, and the lines below where there are any. Assumes nothing.
 use Prim.Native.Nat.{◌+◌, ◌<◌}
 use mathlib.Core.Path.{◌≡◌}
-use borrow.Author.Tests.{lt_ltb}
+use borrow.Author.Tests.{lt-ltb}
 use borrow.Author.Rules.{rules}
 use Rattle.laws.proofs.Choices.{choices}
 use Rattle.rectangle.specs.declared.Rect.{Rect}
@@ -22,7 +22,7 @@ both-erased : (v : View) {r : ViewPlan} {own others : Edit} {span lines : Rect} 
     → v.line < v.viewport.bottom
     → plan_effect r ≡ clear_to_port_end v
 unfolding clear_to_port_end clear_lines_below
-both-erased v p q w o m some = simp (lt_ltb _ _ some) (plan_two p (erase_of v o m) (erase_of v q w))
+both-erased v p q w o m some = simp (lt-ltb _ _ some) (plan_two p (erase_of v o m) (erase_of v q w))
 
 line-span-requires : tie.Need-line-span-requires
 line-span-requires c κs = search rules

@@ -1,5 +1,7 @@
 // Paper 01, 'Blocks, rows, one byte': the cells of a rectangle as a block, and one row of it.
 // A block is a width byte, a height byte, then the cells line by line.
+#![tactic(auto)]
+
 ghost use Rattle.std.specs.Prelude.{◌≡◌, ◌++◌, ◌+◌, ◌*◌, ◌≤◌, ◌<◌, length, drop};
 ghost use Rattle.laws.specs.Parts.{IsPart};
 ghost use Rattle.rectangle.specs.Rectangles.{OnScreen, width_of, height_of};

@@ -1,5 +1,7 @@
 // Runs from Rust, for tests and benchmarks: a script of calls by client, a plain stream in pieces or byte after byte, or an input field's calls (`fields`). Scripts, streams and answers are bytes; a field's answers are numbers.
 // Of state only a field's length and cursor, and the marks of ports, cross this boundary. What it assumes of its caller is outside the proofs: each pointer is good for its length, and lent slices do not overlap.
+#![tactic(auto)]
+
 mod fields;
 mod room;
 mod script;
@@ -21,7 +23,7 @@ use session::{feed_bytewise, feed_in_pieces, fresh_session};
 use slots::{Multiplexer, port_at};
 
 // What a call of any kind hands back. One that is no taking returns no marks.
-#[derive(Drop)]
+#[derive(Clone, Copy)]
 struct Outcome {
     status: Status,
     multiplexer: Multiplexer,
@@ -100,7 +102,7 @@ fn put_answer(answers: &mut [u8], after: usize, outcome: Outcome, screen: &[u8])
 }
 
 // The multiplexer after a call, where the next call starts, and the length of the answer: 0 where no call was served.
-#[derive(Drop)]
+#[derive(Clone, Copy)]
 struct Served {
     multiplexer: Multiplexer,
     next: usize,

@@ -6,7 +6,7 @@ ghost use Rattle.boundary.specs.Script.{LiesPast};
 use rectangle::Rect;
 
 // Its arguments lie in the script from start to end; the first lent of them are a block return's block.
-#[derive(Drop)]
+#[derive(Clone, Copy)]
 pub struct Call {
     pub kind: u8,
     pub client: u8,
@@ -15,7 +15,7 @@ pub struct Call {
     pub lent: usize,
 }
 
-#[derive(Drop)]
+#[derive(Clone, Copy)]
 pub enum Parsed {
     End,
     Call(Call),

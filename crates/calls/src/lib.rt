@@ -1,4 +1,6 @@
 // The calls below their judging: what a write, a block return and a block restore do to a valid port and a screen of 1,920 bytes, and a taking of marks to the port alone. `console` and `multiplexer` judge a call and make it here; the one refusal that both have, of a screen, is here too.
+#![tactic(auto)]
+
 ghost use Rattle.std.specs.Prelude.{◌≡◌, [], ◌∷◌, length};
 ghost use Rattle.port.specs.Valid.{ValidPort};
 ghost use Rattle.reply.specs.Reply.{Replies};
@@ -15,7 +17,7 @@ use reply::Status;
 use screen::is_screen;
 
 // Whether a call is refused before it starts.
-#[derive(Drop)]
+#[derive(Clone, Copy)]
 pub enum Verdict {
     Accepted,
     Refused(Status),
@@ -32,7 +34,7 @@ pub fn screen_verdict(length: usize) -> Verdict
 }
 
 // What a call on a port hands back: the status, the port, and the count of bells or of bytes.
-#[derive(Drop)]
+#[derive(Clone, Copy)]
 pub struct Answer {
     pub status: Status,
     pub port: Port,
@@ -96,7 +98,7 @@ pub fn restore_block(p: Port, screen: &mut [u8], block: &[u8]) -> Answer
 }
 
 // What a taking hands back: the status, the port, the marks (line r is bit r, line 0 the lowest), and how many lines are marked.
-#[derive(Drop)]
+#[derive(Clone, Copy)]
 pub struct Taking {
     pub status: Status,
     pub port: Port,

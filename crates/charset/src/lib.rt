@@ -1,5 +1,7 @@
 // From a code to the byte that is stored on the screen: paper 01, 'From code to stored byte', and paper 02, request 03.
 // Where the documents differ, these decide: MouseText has no effect in normal mode; codes 0x80 to 0xFF lose 128 in normal mode and are stored unchanged in inverse mode.
+#![tactic(auto)]
+
 pub mod table;
 
 ghost use Rattle.std.specs.Prelude.{◌≡◌, ◌*◌};
@@ -8,7 +10,7 @@ ghost use Rattle.charset.specs.Stored.{Agrees, row_of, stored_byte};
 use table::STORED;
 
 // How printing codes look. MouseText is inverse with MouseText on.
-#[derive(Drop)]
+#[derive(Clone, Copy)]
 pub enum Mode {
     Normal,
     Inverse,

@@ -1,5 +1,7 @@
 // Paper 01's program: standard input through a plain console, and the screen printed in hex.
 // What is read and printed is no part of any contract; the work is `console`'s.
+#![tactic(auto)]
+
 ghost use Rattle.std.specs.Prelude.{◌<◌};
 
 use libc::{STDIN_FILENO, STDOUT_FILENO};
@@ -46,7 +48,7 @@ fn print_cursor(at: Session) {
 }
 
 // The session after a piece, and whether more of the input may follow.
-#[derive(Drop)]
+#[derive(Clone, Copy)]
 struct Piece {
     session: Session,
     more: bool,

@@ -1,5 +1,7 @@
 // The plain console of paper 01: what a host calls. No public function has a `requires`: every input, refused or not, has its equation.
 // A call is judged here and made in `calls`.
+#![tactic(auto)]
+
 ghost use Rattle.std.specs.Prelude.{◌≡◌, [], ◌∷◌, length};
 ghost use Rattle.laws.specs.Parts.{IsPart};
 ghost use Rattle.reply.specs.Reply.{Replies};
@@ -88,7 +90,7 @@ fn write_byte(p: Port, screen: &mut [u8], byte: u8) -> Answer
 }
 
 // What the one-byte call hands back besides the port.
-#[derive(Drop)]
+#[derive(Clone, Copy)]
 pub struct ByteAnswer {
     pub status: Status,
     pub count: usize,

@@ -6,7 +6,7 @@ use port::{Port, View, state};
 use printer::draw::Drawn;
 
 // The marks stand first: a word behind the view's odd number of bytes makes each byte slower.
-#[derive(Drop)]
+#[derive(Clone, Copy)]
 pub struct Active {
     pub marks: u32,
     pub view: View,

@@ -1,4 +1,6 @@
 // Control codes and the parameters of commands: each code has an arm, which asks `view` what the code does and draws it.
+#![tactic(auto)]
+
 pub mod active;
 
 ghost use Rattle.std.specs.Prelude.{◌<◌, ◌≡◌, length};

@@ -1,5 +1,7 @@
 // Paper 02, request 01: what a key does in an input field. The text lies in front of a lent buffer.
 // Here is the choice of the key; `keys` has a function for each one, and `buffer` the loops that move bytes.
+#![tactic(auto)]
+
 pub mod buffer;
 mod keys;
 
@@ -13,14 +15,14 @@ use keys::{
 };
 
 // The text is the first length bytes of the buffer, and cursor of them stand before the cursor.
-#[derive(Drop)]
+#[derive(Clone, Copy)]
 pub struct State {
     pub length: usize,
     pub cursor: usize,
 }
 
 // What a key leaves, and its beeps: 1 or none.
-#[derive(Drop)]
+#[derive(Clone, Copy)]
 pub struct Pressed {
     pub state: State,
     pub beeps: usize,

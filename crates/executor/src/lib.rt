@@ -1,4 +1,6 @@
 // The executor: the loop over the bytes of a stream. Printing codes go to `printer`; $01 and $04, which touch what is saved, are obeyed here; all other bytes go to `control`. It counts the bells.
+#![tactic(auto)]
+
 mod saved;
 
 ghost use Rattle.std.specs.Prelude.{◌≡◌, cond, ◌&&◌, ◌||◌, [], ◌∷◌, eqb, length};
@@ -16,7 +18,7 @@ use saved::obey_on_saved;
 use view::mode_of;
 
 // The port that comes next, and the bells that were rung.
-#[derive(Drop)]
+#[derive(Clone, Copy)]
 pub struct Progress {
     pub port: Port,
     pub bells: usize,

@@ -1,5 +1,7 @@
 // Paper 02, request 01: the input field of document 001, as a host calls it. No public function has a `requires`: every input, refused or not, has its equation.
 // A call is judged here, and its keys are read here; what a key does is in `editing`.
+#![tactic(auto)]
+
 mod verdict;
 
 ghost use Rattle.std.specs.Prelude.{◌≤◌, ◌≡◌, length};
@@ -15,7 +17,7 @@ use editing::{State, press};
 use verdict::{Verdict, keys_verdict, start_verdict};
 
 // The request's refusals in their order.
-#[derive(Drop)]
+#[derive(Clone, Copy)]
 pub enum Status {
     Done,
     SizeOutOfRange,
@@ -38,7 +40,7 @@ pub fn status_number(status: Status) -> u8
 }
 
 // The key that ended the field, if one did.
-#[derive(Drop)]
+#[derive(Clone, Copy)]
 pub enum Ending {
     None,
     Return,
@@ -68,14 +70,14 @@ pub fn ending_key(ending: Ending) -> u8
 }
 
 // What a start hands back.
-#[derive(Drop)]
+#[derive(Clone, Copy)]
 pub struct StartAnswer {
     pub status: Status,
     pub state: State,
 }
 
 // What a call with keys hands back: the state, how many keys were read and how many of them beeped, and the ending.
-#[derive(Drop)]
+#[derive(Clone, Copy)]
 pub struct KeysAnswer {
     pub status: Status,
     pub state: State,

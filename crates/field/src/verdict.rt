@@ -5,7 +5,7 @@ ghost use Rattle.field.specs.Verdict as rules;
 use super::Status;
 use editing::State;
 
-#[derive(Drop)]
+#[derive(Clone, Copy)]
 pub enum Verdict {
     Accepted,
     Refused(Status),

@@ -1,3 +1,5 @@
+#![tactic(auto)]
+
 use field::KeysAnswer;
 use libc::STDOUT_FILENO;
 

@@ -1,4 +1,6 @@
 // Line marks of request 02: which lines of the screen were stored to since the marks were last taken. Line r is bit r of a number, line 0 the lowest.
+#![tactic(auto)]
+
 ghost use Rattle.std.specs.Prelude.{◌≡◌, ◌^◌, ◌≤◌, ◌<◌};
 ghost use Rattle.marks.specs.Marks as rules;
 

@@ -1,6 +1,8 @@
 // The wall of paper 01: one screen shared by up to four consoles, each in a pane of its own. This is what a host calls.
 // No public function has a `requires`: every input, refused or not, has its equation. No answer names a slot's place.
 // A call is judged here and made in `calls`, on the port of the client's slot.
+#![tactic(auto)]
+
 ghost use Rattle.std.specs.Prelude.{◌≡◌, ◌<◌, []};
 ghost use Rattle.reply.specs.Reply.{Replies};
 ghost use Rattle.calls.specs.Taking.{taken_of};
@@ -18,7 +20,7 @@ use slots::valid::valid_multiplexer;
 use slots::{Multiplexer, fresh_slot, new_slot, port_at, with_port, with_slot};
 
 // What a call hands back: the status, the multiplexer, and the count of bells or of bytes.
-#[derive(Drop)]
+#[derive(Clone, Copy)]
 pub struct Answer {
     pub status: Status,
     pub multiplexer: Multiplexer,
@@ -36,7 +38,7 @@ fn answer_of(status: Status, multiplexer: Multiplexer, count: usize) -> Answer
 }
 
 // What a taking hands back: the status, the multiplexer, the marks (line r is bit r, line 0 the lowest), and how many lines are marked.
-#[derive(Drop)]
+#[derive(Clone, Copy)]
 pub struct Taking {
     pub status: Status,
     pub multiplexer: Multiplexer,
@@ -64,7 +66,7 @@ pub fn fresh_multiplexer() -> Multiplexer
 }
 
 // Why a call is refused before it starts, or the place of its slot.
-#[derive(Drop)]
+#[derive(Clone, Copy)]
 enum Located {
     Refused(Status),
     At(usize),

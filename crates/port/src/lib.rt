@@ -1,12 +1,14 @@
 // The port of paper 01, 'Screen and port': document 000's text port. Its state, and when it is valid.
 // Document 002 drops a command whose parameters have not all come when a write ends; here it waits (paper 01 decides).
+#![tactic(auto)]
+
 pub mod state;
 pub mod valid;
 
 use rectangle::Rect;
 
 // What $15 sets: document 000's cursor movement flags.
-#[derive(Drop)]
+#[derive(Clone, Copy)]
 pub struct Flags {
     pub dle: bool,
     pub scroll: bool,
@@ -16,7 +18,7 @@ pub struct Flags {
 }
 
 // What $01 saves and $04 takes back. The cursor is absolute: a column and a line of the screen.
-#[derive(Drop)]
+#[derive(Clone, Copy)]
 pub struct View {
     pub viewport: Rect,
     pub column: u8,
@@ -28,7 +30,7 @@ pub struct View {
 
 // A port: its home rectangle, its view, at most one saved view, a command that waits for its parameters, and the marks of the lines that were stored to.
 // Fields that carry nothing hold 0 or false: saved where hassaved is false, count where waiting is 0, gathered from count on.
-#[derive(Drop)]
+#[derive(Clone, Copy)]
 pub struct Port {
     pub home: Rect,
     pub view: View,

@@ -11,7 +11,7 @@ use screen::apply;
 use view::{Change, Moved, ViewPlan};
 
 // What drawing leaves besides the cells: the next view, and the marks.
-#[derive(Drop)]
+#[derive(Clone, Copy)]
 pub struct Drawn {
     pub view: View,
     pub marks: u32,

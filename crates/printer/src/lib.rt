@@ -1,4 +1,6 @@
 // Printing: a byte, the spaces of $10, and printing codes, of which a run that stays in one line is stored in one go.
+#![tactic(auto)]
+
 pub mod draw;
 
 ghost use Rattle.std.specs.Prelude.{◌≡◌, ◌+◌, ◌≤◌, ◌<◌, length, get_or, take, drop};
@@ -65,7 +67,7 @@ fn print_run(screen: &mut [u8], table: &[u8; 768], v: View, bytes: &[u8], from: 
 }
 
 // What printing leaves, and how many codes were printed.
-#[derive(Drop)]
+#[derive(Clone, Copy)]
 pub struct PrintedCodes {
     pub drawn: Drawn,
     pub count: usize,

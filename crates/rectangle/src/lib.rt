@@ -1,10 +1,12 @@
 // Rectangles of the screen of paper 01, 'Screen and port', and edits of them. What an edit makes of the 1,920 cells is defined here; the loops that carry it out are in `screen`.
 // The tests are joined without branches, as the definitions are.
+#![tactic(auto)]
+
 ghost use Rattle.std.specs.Prelude.{◌≡◌};
 ghost use Rattle.rectangle.specs.Rectangles as rules;
 
 // A rectangle of cells. All four edges are inclusive.
-#[derive(Drop)]
+#[derive(Clone, Copy)]
 pub struct Rect {
     pub left: u8,
     pub top: u8,
@@ -13,7 +15,7 @@ pub struct Rect {
 }
 
 // How the cells of a rectangle move. A cell that none moves to is vacated.
-#[derive(Drop)]
+#[derive(Clone, Copy)]
 pub enum Motion {
     // All are vacated.
     Clear,
@@ -26,7 +28,7 @@ pub enum Motion {
 }
 
 // A change of one rectangle: its cells move, and the vacated ones become fill.
-#[derive(Drop)]
+#[derive(Clone, Copy)]
 pub struct Edit {
     pub rect: Rect,
     pub motion: Motion,

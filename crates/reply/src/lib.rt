@@ -1,9 +1,11 @@
 // Paper 01, 'What comes back': the status that every call of a console or a multiplexer answers with. What else a call leaves is in specs/.
+#![tactic(auto)]
+
 ghost use Rattle.std.specs.Prelude.{◌≡◌};
 ghost use Rattle.reply.specs.Numbers.{status_number};
 
 // The table's rows in its order. 1 to 10 are refusals.
-#[derive(Drop)]
+#[derive(Clone, Copy)]
 pub enum Status {
     Done,
     ScreenLength,

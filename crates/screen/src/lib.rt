@@ -1,5 +1,7 @@
 // The screen of paper 01, 'Screen and port': 1,920 bytes, 24 lines of 80 columns, line 0 first, column 0 first.
 // The loops that read or write its cells: an edit clears, scrolls or shifts one rectangle of it, neighbouring cells are copied out and in, and a run of printing codes is stored. No other crate of the library indexes it.
+#![tactic(auto)]
+
 mod moves;
 
 ghost use Rattle.std.specs.Prelude.{◌≡◌, ◌+◌, ◌-◌, ◌≤◌, min, length};

@@ -1,4 +1,6 @@
 // A plain console kept for a session. A stream may come in pieces of any size, or byte after byte.
+#![tactic(auto)]
+
 pub mod answer;
 
 ghost use Rattle.std.specs.Prelude.{◌≡◌, ◌<◌, min};
@@ -10,7 +12,7 @@ use port::Port;
 use reply::Status;
 
 // The status is that of the last call, and Done before the first. There are at most as many bells as bytes, so the sum never wraps.
-#[derive(Drop)]
+#[derive(Clone, Copy)]
 pub struct Session {
     pub port: Port,
     pub bells: u64,

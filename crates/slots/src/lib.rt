@@ -1,4 +1,6 @@
 // The slots of a multiplexer: paper 01's wall, without its calls. Each is a client's number and its port, whose home is the client's pane.
+#![tactic(auto)]
+
 pub mod lookup;
 pub mod valid;
 
@@ -12,13 +14,13 @@ use port::state::{fresh_port, with_marks};
 use rectangle::Rect;
 
 // A slot is the paper's seat, and client its bench number. Client 0: the slot is free, and every field is 0 or false.
-#[derive(Drop)]
+#[derive(Clone, Copy)]
 pub struct Slot {
     pub client: u8,
     pub port: Port,
 }
 
-#[derive(Drop)]
+#[derive(Clone, Copy)]
 pub struct Multiplexer {
     pub slots: [Slot; 4],
 }

@@ -1,3 +1,5 @@
+#![tactic(auto)]
+
 use libc::STDOUT_FILENO;
 use multiplexer::Answer;
 use rectangle::Rect;

@@ -1,5 +1,7 @@
 // What each code of paper 01 does to a view, as a plan: the next view and the edits of the screen, at most two. Printing moves the cursor as a code does.
 // No function here sees a screen: what a port does next never depends on a cell.
+#![tactic(auto)]
+
 pub mod cursor;
 pub mod erase;
 pub mod place;
@@ -16,21 +18,21 @@ use port::{Flags, View};
 use rectangle::{Edit, Motion};
 
 // At most one edit.
-#[derive(Drop)]
+#[derive(Clone, Copy)]
 pub enum Change {
     Nothing,
     Draw(Edit),
 }
 
 // The next view, with at most one edit.
-#[derive(Drop)]
+#[derive(Clone, Copy)]
 pub struct Moved {
     pub view: View,
     pub change: Change,
 }
 
 // The next view, with at most two edits in their order.
-#[derive(Drop)]
+#[derive(Clone, Copy)]
 pub struct ViewPlan {
     pub view: View,
     pub first: Change,

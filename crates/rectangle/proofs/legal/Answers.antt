@@ -1,12 +1,8 @@
 -- `rectangle::legal` meets its contract: the tests are the definition's, joined as it joins them. Assumes nothing.
 use mathlib.Core.Path.{refl}
 use Rattle.rectangle.specs.Rectangles.{legal}
-use Rattle.rectangle.proofs.legal.Statement.{statement}
-use Rattle.rectangle.proofs.legal.Tie as tie
+use Rattle.rectangle.proofs.legal.Goals as goal
 
-returns : tie.Need-returns
+pub returns : goal.returns
 unfolding legal
 returns c = refl
-
-pub legal-spec : {M : Type 1} → statement M
-legal-spec = tie.close (tie.spec returns)

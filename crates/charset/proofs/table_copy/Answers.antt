@@ -2,12 +2,8 @@
 use mathlib.Core.Path.{refl}
 use Rattle.charset.specs.Stored.{in_range, stored_symbol, stored_capital, stored_high, stored_byte}
 use Rattle.charset.proofs.Agreement.{agrees}
-use Rattle.charset.proofs.table_copy.Statement.{statement}
-use Rattle.charset.proofs.table_copy.Tie as tie
+use Rattle.charset.proofs.table_copy.Goals as goal
 
-returns : tie.Need-returns
+pub returns : goal.returns
 unfolding in_range stored_symbol stored_capital stored_high stored_byte
 returns c = agrees _ refl tt
-
-pub table-copy-spec : {M : Type 1} → statement M
-table-copy-spec = tie.close (tie.spec returns)

@@ -2,7 +2,6 @@
 use Prim.Native.Nat.{◌+◌, ◌<◌}
 use mathlib.Core.Path.{◌≡◌}
 use borrow.Author.Tests.{lt-ltb}
-use borrow.Author.Rules.{rules}
 use Rattle.laws.proofs.Choices.{choices}
 use Rattle.rectangle.specs.declared.Rect.{Rect}
 use Rattle.rectangle.specs.declared.Edit.{Edit}
@@ -13,8 +12,7 @@ use Rattle.view.specs.declared.Change.TheVariants.{Draw}
 use Rattle.view.specs.declared.ViewPlan.{ViewPlan}
 use Rattle.view.specs.Plan.{plan_effect, plan}
 use Rattle.view.proofs.Plans.{plans, plan_two, erase_of}
-use Rattle.view.proofs.erase.clear_to_port_end.Statement.{statement}
-use Rattle.view.proofs.erase.clear_to_port_end.Tie as tie
+use Rattle.view.proofs.erase.clear_to_port_end.Goals as goal
 
 -- the cursor's line, and then lines below it
 both-erased : (v : View) {r : ViewPlan} {own others : Edit} {span lines : Rect} → r ≡ plan v own (Draw others) → others ≡ erase_edit v lines → lines ≡ view_lines v (v.line + 1) v.viewport.bottom → own ≡ erase_edit v span
@@ -24,44 +22,9 @@ both-erased : (v : View) {r : ViewPlan} {own others : Edit} {span lines : Rect} 
 unfolding clear_to_port_end clear_lines_below
 both-erased v p q w o m some = simp (lt-ltb _ _ some) (plan_two p (erase_of v o m) (erase_of v q w))
 
-line-span-requires : tie.Need-line-span-requires
-line-span-requires c κs = search rules
+pub returns-then-v-viewport : goal.returns-then-v-viewport
+returns-then-v-viewport c = search both-erased
 
-erase-edit-requires : tie.Need-erase-edit-requires
-erase-edit-requires c κs = search rules
-
-add-view-lines : tie.Need-overflow-add-view-lines
-add-view-lines c = search rules
-
-view-lines-requires : tie.Need-view-lines-requires
-view-lines-requires c κs = search rules
-
-erase-edit-requires-2 : tie.Need-erase-edit-requires-2
-erase-edit-requires-2 c κs = search rules
-
-plan-requires : tie.Need-plan-requires
-plan-requires c κs = search rules
-
-returns : tie.Need-returns
-returns c = search both-erased
-
-plan-requires-2 : tie.Need-plan-requires-2
-plan-requires-2 c κs = search rules
-
-returns-2 : tie.Need-returns-2
+pub returns : goal.returns
 unfolding clear_to_port_end clear_lines_below
-returns-2 c = search (choices, plans)
-
-pub clear-to-port-end-spec : {M : Type 1} → statement M
-clear-to-port-end-spec =
-    tie.close
-    (tie.spec
-    line-span-requires
-    erase-edit-requires
-    add-view-lines
-    view-lines-requires
-    erase-edit-requires-2
-    plan-requires
-    returns
-    plan-requires-2
-    returns-2)
+returns c = search (choices, plans)

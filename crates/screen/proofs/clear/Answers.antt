@@ -1,5 +1,4 @@
--- `screen::clear` meets its contract. The invariant: the rectangle's lines from its top up to line are filled, and nothing else is
--- changed. Assumes nothing.
+-- `screen::clear` meets its contract, by its invariant. Assumes nothing.
 use native.Mathlib.Omega.{arith}
 use borrow.Author.Rules.{rules}
 use Rattle.screen.proofs.Rewrites.{none}

@@ -1,4 +1,4 @@
--- `screen::copy_run` meets its contract. The invariant: k bytes are copied, and nothing else is changed. Assumes nothing.
+-- `screen::copy_run` meets its contract, by its invariant. Assumes nothing.
 use mathlib.Core.Path.{refl}
 use native.Mathlib.Omega.{arith}
 use Rattle.screen.proofs.Rewrites.{none, ends, one_copied}
@@ -8,7 +8,7 @@ pub loop-k-init : goal.loop-k-init
 loop-k-init c = (omega arith, ends none refl (omega arith))
 
 pub loop-k-preserved : goal.loop-k-preserved
-loop-k-preserved c = let a = c.args in (omega arith, one_copied a.source.now a.from _ _ c.loop-k.invariant.1 (omega arith))
+loop-k-preserved c = (omega arith, one_copied c.args.source.now c.args.from _ _ c.loop-k.invariant.1 (omega arith))
 
 pub shape_of-target : goal.shape_of-target
 shape_of-target c = c.loop-k.invariant.1.len

@@ -1,5 +1,4 @@
--- `screen::fill_run` meets its contract. The invariant: the cells from start up to i hold byte, and nothing else is changed.
--- Assumes nothing.
+-- `screen::fill_run` meets its contract, by its invariant. Assumes nothing.
 use mathlib.Core.Path.{refl}
 use native.Mathlib.Omega.{arith}
 use Rattle.screen.proofs.Rewrites.{none, ends, one_after}

@@ -1,5 +1,4 @@
--- `screen::pull_run` meets its contract. The invariant: the cells from start up to i hold what those gap places after them held at
--- entry, and nothing else is changed. The cell that is read is i or a later one, so it is as it was at entry. Assumes nothing.
+-- `screen::pull_run` meets its contract. The cell that is read is i or a later one, so it is as it was at entry. Assumes nothing.
 use mathlib.Core.Path.{refl}
 use native.Mathlib.Omega.{arith}
 use Rattle.screen.proofs.Rewrites.{none, ends, one_after}

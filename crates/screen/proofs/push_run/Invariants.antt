@@ -1,6 +1,4 @@
--- `screen::push_run` meets its contract. The invariant: the cells from i up to end hold what those gap places before them held at
--- entry, and nothing else is changed. The cell that is read is i or an earlier one, and the cells stored to are later ones, so it is as
--- it was at entry. Assumes nothing.
+-- The invariant of `screen::push_run`: the cells from i up to end hold what those gap places before them held at entry, and nothing else is changed. Assumes nothing.
 use Prim.Native.Nat.{◌-◌, ◌≤◌}
 use lib.ListN.{get_or}
 use Rattle.screen.specs.Rewrite.{Rewritten}

@@ -1,5 +1,4 @@
--- `screen::scroll_down_by_line` meets its contract. The invariant: each of the rectangle's lines that have moved, counted from its bottom,
--- holds what the one above it held at entry, and nothing else is changed. The top line is filled last. Assumes nothing.
+-- `screen::scroll_down_by_line` meets its contract. The top line is filled last. Assumes nothing.
 use mathlib.Core.Path.{refl, ◌∙◌}
 use native.Mathlib.Omega.{arith}
 use borrow.Author.Rules.{rules}

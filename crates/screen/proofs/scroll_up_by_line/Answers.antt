@@ -1,5 +1,4 @@
--- `screen::scroll_up_by_line` meets its contract. The invariant: each of the rectangle's lines from its top up to line holds what the one
--- below it held at entry, and nothing else is changed. The bottom line is filled last. Assumes nothing.
+-- `screen::scroll_up_by_line` meets its contract. The bottom line is filled last. Assumes nothing.
 use mathlib.Core.Path.{refl, ◌∙◌}
 use native.Mathlib.Omega.{arith}
 use borrow.Author.Rules.{rules}

@@ -1,5 +1,4 @@
--- `screen::shift_left` meets its contract. The invariant: the rectangle's lines from its top up to line are shifted, and nothing else is
--- changed. A gap of at most the width keeps both runs of a line in the rectangle. Assumes nothing.
+-- `screen::shift_left` meets its contract. A gap of at most the width keeps both runs of a line in the rectangle. Assumes nothing.
 use mathlib.Core.Path.{refl}
 use native.Mathlib.Omega.{arith}
 use borrow.Author.Rules.{rules}

@@ -1,4 +1,4 @@
--- `screen::store_run` meets its contract. The invariant: n codes are stored. Assumes nothing.
+-- `screen::store_run` meets its contract, by its invariant. Assumes nothing.
 use native.Mathlib.Omega.{arith}
 use borrow.Author.Rules.{rules}
 use Rattle.screen.proofs.Runs.{none_stored, one_stored}

@@ -1,4 +1,4 @@
--- `screen::store_run` meets its contract. The invariant: n codes are stored. Assumes nothing.
+-- The invariant of `screen::store_run`: n codes are stored. Assumes nothing.
 use Prim.Native.Nat.{◌-◌}
 use mathlib.Core.Path.{◌≡◌}
 use lib.ListN.{length}

@@ -1,6 +1,4 @@
--- `screen::moves::move_chunks_down` meets its contract. The invariant: of the cells so many as are done, or all, hold what those a line
--- before them held at entry, and nothing else is changed. A chunk is read from the line above, which nothing is stored to, so it is as
--- it was at entry. Assumes nothing.
+-- `screen::moves::move_chunks_down` meets its contract. A chunk is read from the line above, which nothing is stored to, so it is as it was at entry. Assumes nothing.
 use mathlib.Core.Path.{refl}
 use native.Mathlib.Omega.{arith}
 use Rattle.screen.proofs.Rewrites.{none, ends, holds, then_over}

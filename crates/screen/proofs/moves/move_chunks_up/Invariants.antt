@@ -1,6 +1,4 @@
--- `screen::moves::move_chunks_up` meets its contract. The invariant: of the cells so many as are done, or all, hold what those a line
--- after them held at entry, and nothing else is changed. A chunk is read from the line below, which nothing is stored to, so it is as
--- it was at entry. Assumes nothing.
+-- The invariant of `screen::moves::move_chunks_up`: of the cells so many as are done, or all, hold what those a line after them held at entry, and nothing else is changed. Assumes nothing.
 use Prim.Native.Nat.{◌+◌, ◌-◌, ◌≤◌, min}
 use Rattle.screen.specs.Rewrite.{Relocated}
 use Rattle.screen.proofs.moves.move_chunks_up.Given as goal

@@ -8,6 +8,5 @@ use Rattle.screen.proofs.Parts.{rest_back}
 use Rattle.screen.proofs.moves.move_run_down.Goals as goal
 
 pub returns : goal.returns
-returns c = let start = c in
-    let moved = rest_back start.args.at _ _ _ (λ i. i - 80) start.args.screen.now _ (omega arith) c.push_cells.ensures (λ i h k. omega arith) in
+returns c = let moved = rest_back c.args.at _ _ _ (λ i. i - 80) c.args.screen.now _ (omega arith) c.push_cells.ensures (λ i h k. omega arith) in
     ends moved refl (omega arith)

@@ -1,5 +1,4 @@
--- `screen::moves::pull_cells` meets its contract. The invariant: the cells before i hold what those a line after them held at entry, and
--- nothing else is changed. The cell that is read is a later one, so it is as it was at entry. Assumes nothing.
+-- `screen::moves::pull_cells` meets its contract. The cell that is read is a later one, so it is as it was at entry. Assumes nothing.
 use mathlib.Core.Path.{refl}
 use native.Mathlib.Omega.{arith}
 use Rattle.screen.proofs.Rewrites.{none, ends, one_after}

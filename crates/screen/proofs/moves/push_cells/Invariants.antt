@@ -1,5 +1,4 @@
--- `screen::moves::push_cells` meets its contract. The invariant: the cells from i on hold what those a line before them held at entry,
--- and nothing else is changed. The cell that is read is an earlier one, so it is as it was at entry. Assumes nothing.
+-- The invariant of `screen::moves::push_cells`: the cells from i on hold what those a line before them held at entry, and nothing else is changed. Assumes nothing.
 use Prim.Native.Nat.{◌+◌, ◌-◌, ◌≤◌}
 use Rattle.screen.specs.Rewrite.{Relocated}
 use Rattle.screen.proofs.moves.push_cells.Given as goal

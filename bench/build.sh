@@ -1,5 +1,5 @@
 # Shared by the scripts beside it, which run it from the top of the repository. It builds the benchmark for release, linked with the library.
-folder=target/staticlib
+folder=crates/boundary/out
 library=$folder/libboundary.a
 out=target/bench
 
@@ -20,7 +20,7 @@ compile() { # PROGRAM SOURCE
 
 # Always anew, as the library may have changed: it takes some seconds.
 build() {
-    [ -f "$library" ] || fail "$library is missing; 'rt staticlib boundary' builds it"
+    [ -f "$library" ] || fail "$library is missing; 'rt lib' in crates/boundary builds it"
     need rustc
     mkdir -p "$out"
     compile bench main.rs

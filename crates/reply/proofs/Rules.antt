@@ -46,7 +46,7 @@ module _ {Status : Type 0} (done : Status) (number : Status → ℕ) (zero_done 
   past None k [] r n low high = record { only_when = λ e. absurd (omega (arith, ap number e)); whenever = λ p. absurd (n p) }
   past None k (x ∷ xs) r n low high = (
     record { only_when = λ e. absurd (omega (arith, ap number e)); whenever = λ p. absurd (n p.0) },
-    past _ (number x) xs r.1 (λ p. n p.0) low (omega arith),
+    past (None × (applies x → ⊥)) (number x) xs r.1 (λ p. n p.0) low (omega arith),
   )
 
   each_from : (None : Type 0) (k : ℕ) {xs : List Status} → Rising number k xs → None → First done applies given xs → Each done applies None xs given
@@ -59,7 +59,7 @@ module _ {Status : Type 0} (done : Status) (number : Status → ℕ) (zero_done 
       only_when = λ e. absurd (⊎_elim (λ d. omega (arith, ap number (sym e ∙ d))) (λ l. omega (arith, ap number e)) (above (number x) r.1 f));
       whenever = λ q. absurd (n q.1);
     },
-    each_from _ (number x) r.1 (p, n) f,
+    each_from (None × (applies x → ⊥)) (number x) r.1 (p, n) f,
   )
 
 pub answers_first : {Status : Type 0} {done : Status} {number : Status → ℕ} {applies : Status → Type 0} {given : Status} {xs : List Status} → number done ≡ 0 → Rising number 0 xs → First done applies given xs → Answers done number applies xs given

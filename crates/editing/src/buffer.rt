@@ -4,7 +4,6 @@ ghost use Rattle.editing.specs.Keys.{inserted, removed, start_content};
 ghost use Rattle.editing.specs.Buffer.{laid, state_of};
 
 use super::State;
-use bytes::copy;
 
 // A byte is put at a place of the text, whose size is in bytes, and those from there on move one place to the right.
 // The byte that was at each place is carried to the next one.
@@ -44,7 +43,7 @@ pub fn lay_default(width: usize, default: &[u8], buffer: &mut [u8]) -> State
     ensures { (result ≡ state_of (start_content width default.now)) × (buffer.new ≡ laid default.now buffer.old) }
 {
     let length = default.len();
-    copy(default, buffer);
+    buffer[..length].copy_from_slice(default);
     State {
         length,
         cursor: min(length, width),

@@ -1,12 +1,8 @@
 -- The ending keys. Assumes nothing.
 use Prim.Native.Nat.{ℕ}
 use mathlib.Core.Path.{◌≡◌, refl}
-use mathlib.Core.List.{[], ◌∷◌}
-use mathlib.Core.Logic.{◌⊎◌, inl, inr, ⊎_elim}
+use mathlib.Core.Logic.{◌⊎◌, inl, inr}
 use native.Mathlib.Omega.{arith}
-use types.Run.{OneOf}
-use denote.Enum.Declared.{tag_of}
-use Rattle.field.specs.contracts.Ending.{the_type}
 use Rattle.field.specs.declared.Ending.{Ending}
 use Rattle.field.specs.declared.Ending.TheVariants.{None, Return, Escape}
 use Rattle.field.specs.Endings.{ending_of}
@@ -30,9 +26,3 @@ pub ended? : (ending : Ending) → (ending ≡ None) ⊎ (ending ≡ None → �
 ended? None = inl refl
 ended? Return = inr return_is_one
 ended? Escape = inr escape_is_one
-
--- an ending whose tag is that of Return or of Escape is not None
-pub not_none : (ending : Ending) → OneOf (1 ∷ 2 ∷ []) (tag_of the_type ending) → ending ≡ None → ⊥
-not_none None one e = ⊎_elim (λ h. omega arith) (λ h. omega arith) one
-not_none Return one e = return_is_one e
-not_none Escape one e = escape_is_one e

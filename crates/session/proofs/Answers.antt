@@ -56,4 +56,5 @@ pub end_stored : (s t : List ℕ) (number : ℕ) (x : Session) (a : Taking) → 
     → Replies (take_call x.port) a.status a.port (taken_of a.marks a.count) [] []
     → t ≡ parts_of number x.bells x.port.view.column x.port.view.line (taken_of a.marks a.count) ++ drop 12 s
     → t ≡ end_of x ++ drop 12 s
-end_stored s t number x a is r laid = laid ∙ rw (is, r.result_is)
+end_stored s t number x a is r laid =
+    laid ∙ (λ i. parts_of (is i) x.bells x.port.view.column x.port.view.line (r.result_is i) ++ drop 12 s)

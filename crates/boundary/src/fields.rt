@@ -3,7 +3,6 @@ ghost use Rattle.std.specs.Prelude.{◌≤◌, ◌≡◌, ◌++◌, length, drop
 ghost use Rattle.boundary.specs.Run.{Runs};
 ghost use Rattle.boundary.specs.Fields.{state_at, numbers_of, start_run, keys_run, text_run};
 
-use bytes::copy;
 use editing::State;
 use field::{Ending, Status, ending_key, ending_of, keys, start, status_number, text};
 
@@ -103,5 +102,6 @@ pub extern "C" fn combthrift_field_text<'a>(
     if answer.len() < chosen.len() {
         return 0;
     }
-    copy(chosen, answer)
+    answer[..chosen.len()].copy_from_slice(chosen);
+    chosen.len()
 }

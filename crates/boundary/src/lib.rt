@@ -11,7 +11,6 @@ ghost use Rattle.boundary.specs.Script.{Lies};
 ghost use Rattle.boundary.specs.Run.{Runs};
 ghost use Rattle.boundary.specs.Stream.{stream_run, bytewise_run};
 
-use bytes::copy;
 use multiplexer::{
     Answer, Taking, close, fresh_multiplexer, open, restore_block, return_block, take_marks, write,
 };
@@ -98,7 +97,7 @@ fn put_answer(answers: &mut [u8], after: usize, outcome: Outcome, screen: &[u8])
     put_word(answers, 5, outcome.marks as u64);
     put_slot_marks(answers, after, outcome.multiplexer);
     let cells = after + 16;
-    copy(screen, &mut answers[cells..]);
+    answers[cells..cells + screen.len()].copy_from_slice(screen);
 }
 
 // The multiplexer after a call, where the next call starts, and the length of the answer: 0 where no call was served.
@@ -119,7 +118,7 @@ fn serve(m: Multiplexer, screen: &mut [u8], script: &[u8], call: Call, answers: 
     let lent = call.lent;
     let after = 9 + lent;
     let length = after + 16 + screen.len();
-    copy(&script[start..start + lent], &mut answers[9..after]);
+    answers[9..after].copy_from_slice(&script[start..start + lent]);
     let outcome = dispatch(
         m,
         screen,

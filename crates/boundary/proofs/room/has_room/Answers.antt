@@ -7,8 +7,7 @@ use mathlib.Core.Logic.{⊎_elim}
 use lib.Dec.{leb}
 use borrow.Author.Tests.{le-leb, lt-leb}
 use Rattle.laws.proofs.Tests.{below?}
-use Rattle.boundary.proofs.room.has_room.Statement.{statement}
-use Rattle.boundary.proofs.room.has_room.Tie as tie
+use Rattle.boundary.proofs.room.has_room.Goals as goal
 
 fits : (room lent cells : ℕ) → 25 ≤ room → lent ≤ room - 25 → leb cells (room - 25 - lent) ≡ leb (25 + lent + cells) room
 fits room lent cells numbers block =
@@ -23,14 +22,11 @@ no-numbers room lent cells short = sym (lt-leb (25 + lent + cells) room (omega a
 no_block : (room lent cells : ℕ) → 25 ≤ room → room - 25 < lent → false ≡ leb (25 + lent + cells) room
 no_block room lent cells numbers short = sym (lt-leb (25 + lent + cells) room (omega arith))
 
-returns : tie.Need-returns
-returns c = search no-numbers
+pub returns-then-room-lt25 : goal.returns-then-room-lt25
+returns-then-room-lt25 c = search no-numbers
 
-returns-2 : tie.Need-returns-2
-returns-2 c = search no_block
+pub returns-then-left-lent : goal.returns-then-left-lent
+returns-then-left-lent c = search no_block
 
-returns-3 : tie.Need-returns-3
-returns-3 c = search fits
-
-pub has-room-spec : {M : Type 1} → statement M
-has-room-spec = tie.close (tie.spec returns returns-2 returns-3)
+pub returns : goal.returns
+returns c = search fits

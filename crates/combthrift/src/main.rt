@@ -2,10 +2,11 @@
 // What is read and printed is no part of any contract; the work is `console`'s.
 #![tactic(auto)]
 
-ghost use Rattle.std.specs.Prelude.{◌<◌};
+ghost use Rattle.std.specs.Prelude.{◌≤◌, ◌<◌, length, IfOk};
 
-use libc::{STDIN_FILENO, STDOUT_FILENO};
 use session::{Session, feed, fresh_session};
+use std::io;
+use std::io::{ErrorKind, Read};
 
 fn hex_digit(n: u8) -> u8 {
     let digit = n % 16;
@@ -17,7 +18,7 @@ fn hex_digit(n: u8) -> u8 {
 }
 
 // One line of the screen: 160 hex digits and a line feed.
-fn print_line(screen: &[u8; 1920], line: usize)
+fn print_line(rt: &impl Print, screen: &[u8; 1920], line: usize) -> io::Result<()>
     requires { line < 24 }
 {
     let mut text = [b'\n'; 161];
@@ -26,25 +27,42 @@ fn print_line(screen: &[u8; 1920], line: usize)
         text[2 * column] = hex_digit(cell / 16);
         text[2 * column + 1] = hex_digit(cell);
     }
-    io::write_all(STDOUT_FILENO, &text);
+    rt.write_all(&text)
 }
 
-fn print_screen(screen: &[u8; 1920]) {
+fn print_screen(rt: &impl Print, screen: &[u8; 1920]) -> io::Result<()> {
     for line in 0..24 {
-        print_line(screen, line);
+        print_line(rt, screen, line)?;
     }
+    Ok(())
 }
 
 // The last line: cursor column, line and bells, in decimal.
-fn print_cursor(at: Session) {
+fn print_cursor(rt: &impl Print, at: Session) -> io::Result<()> {
     let v = at.port.view;
-    io::write_all(STDOUT_FILENO, b"cursor ");
-    io::print_decimal(STDOUT_FILENO, v.column as u64);
-    io::write_all(STDOUT_FILENO, b" ");
-    io::print_decimal(STDOUT_FILENO, v.line as u64);
-    io::write_all(STDOUT_FILENO, b" bells ");
-    io::print_decimal(STDOUT_FILENO, at.bells);
-    io::write_all(STDOUT_FILENO, b"\n");
+    let column = v.column;
+    let line = v.line;
+    let bells = at.bells;
+    println!(rt; "cursor {column} {line} bells {bells}")
+}
+
+// Reads until the piece is full or the input ends, and says how many bytes of it are the input's.
+fn read_full<R: Read>(input: &mut R, piece: &mut [u8]) -> io::Result<usize>
+    ensures { IfOk result (λ n. n ≤ length piece.old) }
+{
+    let mut got = 0;
+    for _ in 0..u64::MAX {
+        if got == piece.len() {
+            break;
+        }
+        match input.read(&mut piece[got..]) {
+            Ok(0) => break,
+            Ok(n) => got += n,
+            Err(e) if e.kind() == ErrorKind::Interrupted => {}
+            Err(e) => return Err(e),
+        }
+    }
+    Ok(got)
 }
 
 // The session after a piece, and whether more of the input may follow.
@@ -55,33 +73,31 @@ struct Piece {
 }
 
 // The next 4,096 bytes of the input, or what is left of it, in one write. A stream may be cut anywhere.
-fn read_piece(screen: &mut [u8], at: Session) -> Piece {
-    let mut piece = io::buffer();
-    let got = io::read_full(STDIN_FILENO, &mut piece);
-    Piece {
+fn read_piece<R: Read>(input: &mut R, screen: &mut [u8], at: Session) -> io::Result<Piece> {
+    let mut piece = [0u8; 4096];
+    let got = read_full(input, &mut piece)?;
+    Ok(Piece {
         session: feed(screen, at, &piece[..got]),
         more: got == 4096,
-    }
+    })
 }
 
-// The input to its end or to 1,048,576 bytes: 256 pieces. A read that fails ends it too.
-fn read_all(screen: &mut [u8], at: Session) -> Session {
+// The input to its end or to 1,048,576 bytes: 256 pieces.
+fn read_all<R: Read>(input: &mut R, screen: &mut [u8], at: Session) -> io::Result<Session> {
     let mut now = at;
-    let mut left: usize = 256;
-    while 0 < left {
-        let piece = read_piece(screen, now);
+    for _ in 0..256 {
+        let piece = read_piece(input, screen, now)?;
         now = piece.session;
         if !piece.more {
-            return now;
+            break;
         }
-        left -= 1;
     }
-    now
+    Ok(now)
 }
 
-fn main() {
+fn main(rt: HostRuntime) -> io::Result<()> {
     let mut screen = [0xA0u8; 1920];
-    let end = read_all(&mut screen, fresh_session());
-    print_screen(&screen);
-    print_cursor(end);
+    let end = read_all(&mut rt.reader(), &mut screen, fresh_session())?;
+    print_screen(&rt, &screen)?;
+    print_cursor(&rt, end)
 }

@@ -1,19 +1,17 @@
 #![tactic(auto)]
 
-use libc::STDOUT_FILENO;
 use multiplexer::Answer;
 use rectangle::Rect;
+use std::io;
 
 // A call's number and count, in decimal.
-fn show(answer: Answer) {
-    let status = answer.status;
-    io::print_decimal(STDOUT_FILENO, reply::status_number(status) as u64);
-    io::write_all(STDOUT_FILENO, b" ");
-    io::print_decimal(STDOUT_FILENO, answer.count as u64);
-    io::write_all(STDOUT_FILENO, b"\n");
+fn show(rt: &impl Print, answer: Answer) -> io::Result<()> {
+    let number = reply::status_number(answer.status);
+    let count = answer.count;
+    println!(rt; "{number} {count}")
 }
 
-fn main() {
+fn main(rt: HostRuntime) -> io::Result<()> {
     // The screen is the host's own: 24 lines of 80 bytes, blank at the start.
     let mut screen = [0xA0u8; 1920];
     // Client 7 gets the left half. Each call hands the multiplexer back for the next one.
@@ -24,10 +22,11 @@ fn main() {
         bottom: 23,
     };
     let opened = multiplexer::open(multiplexer::fresh_multiplexer(), &mut screen, 7, pane);
-    show(opened);
+    show(&rt, opened)?;
     // Text and a bell: 0, done, and 1 bell.
     let written = multiplexer::write(opened.multiplexer, &mut screen, 7, b"Hello\x07");
-    show(written);
+    show(&rt, written)?;
     // Nobody is client 8: refused with 8, and nothing changes.
-    show(multiplexer::write(written.multiplexer, &mut screen, 8, b"Hello"));
+    let refused = multiplexer::write(written.multiplexer, &mut screen, 8, b"Hello");
+    show(&rt, refused)
 }

@@ -4,7 +4,7 @@
 //! every viewport. Plays a projector, which shows the library's screen by
 //! its marks alone.
 //!
-//! Build: rustc --edition 2021 -O -L native=target/staticlib
+//! Build: rustc --edition 2021 -O -L native=crates/boundary/out
 //!        -l static=boundary -o OUT tests/compare/main.rs
 //! Run:   OUT streams DIR CONSOLE
 //!        OUT random SEED COUNT CONSOLE

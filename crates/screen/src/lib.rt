@@ -4,7 +4,7 @@
 
 mod moves;
 
-ghost use Rattle.std.specs.Prelude.{◌≡◌, ◌+◌, ◌-◌, ◌≤◌, min, length};
+ghost use Rattle.std.specs.Prelude.{◌≡◌, ◌+◌, ◌-◌, ◌*◌, ◌≤◌, min, length};
 ghost use Rattle.laws.specs.Parts.{stretch, no_stretch, IsPart};
 ghost use Rattle.rectangle.specs.Cells.{cell_index};
 ghost use Rattle.rectangle.specs.Rectangles.{OnScreen, width_of, cell_at};
@@ -161,6 +161,16 @@ fn push_run(screen: &mut [u8], start: usize, end: usize, gap: usize)
     while start < i {
         i -= 1;
         screen[i] = screen[i - gap];
+    }
+}
+
+// Columns start up to end of line target become those of line source, cell after cell. The scrolls moved lines so before request 04, and move whole lines since; nothing calls it now.
+fn copy_line(screen: &mut [u8], start: usize, end: usize, source: usize, target: usize)
+    requires { (start ≤ end) × (end ≤ 80) × (source ≤ 23) × (target ≤ 23) × (length screen.old ≡ 1920) }
+    ensures { Relocated (cell_index start target) (cell_index end target) (λ i. i + 80 * source - 80 * target) screen.old screen.new }
+{
+    for column in start..end {
+        screen[cell_index(column, target)] = screen[cell_index(column, source)];
     }
 }
 

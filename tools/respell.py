@@ -21,6 +21,8 @@ CHOSEN = {
     # port.py respelled its declaration, and not each use
     "is-open": "is_open",
     "bit-or": "bit_of_or",
+    # port.py made this of getD-tabulate, and today's word for getD is get_or
+    "get_d_tabulate": "get_or_tabulate",
     "block-fits": "block_fits_lem",
     "fresh-multiplexer": "fresh_multiplexer_lem",
     "has-line": "has_line_lem",

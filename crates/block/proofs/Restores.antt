@@ -6,7 +6,7 @@ use mathlib.Core.List.{List}
 use native.Mathlib.Omega.{arith}
 use lib.ListN.{length, get_or, get_or-eq_default}
 use lib.Seq.{ext_get_or}
-use Rattle.laws.specs.Tabulate.{length_tabulate, get_d_tabulate}
+use Rattle.laws.specs.Tabulate.{length_tabulate, get_or_tabulate}
 use Rattle.laws.proofs.Tests.{below?, by_test}
 use Rattle.rectangle.specs.declared.Rect.{Rect}
 use Rattle.rectangle.specs.Rectangles.{OnScreen, Within}
@@ -25,13 +25,13 @@ module _ (r : Rect) (block s : List ℕ) where
   -- a cell of the rectangle is the block's, and any other is as it was
   pub restored_inside : (i : ℕ) → i < 1920 → Inside r i → get_or (restored r block s) i 0 ≡ get_or block (block_place r i) 0
   unfolding restored
-  restored_inside i h x = get_d_tabulate 1920 _ i h ∙ rw ((decides_inside r i).passes x)
+  restored_inside i h x = get_or_tabulate 1920 _ i h ∙ rw ((decides_inside r i).passes x)
 
   pub restored_outside : length s ≡ 1920 → (i : ℕ) → (Inside r i → ⊥) → get_or (restored r block s) i 0 ≡ get_or s i 0
   unfolding restored
   restored_outside l i out =
       ⊎_elim
-      (λ h. get_d_tabulate 1920 _ i h ∙ by_test (λ b. b ≡ get_or s i 0) (inside r i) (λ e. absurd (out ((decides_inside r i).holds e))) (λ e. refl))
+      (λ h. get_or_tabulate 1920 _ i h ∙ by_test (λ b. b ≡ get_or s i 0) (inside r i) (λ e. absurd (out ((decides_inside r i).holds e))) (λ e. refl))
       (λ h. get_or-eq_default (restored r block s) 0 {n = i} (omega (arith, length_restored)) ∙ sym (get_or-eq_default s 0 (omega arith)))
       (below? i 1920)
 

@@ -12,8 +12,8 @@ unfolding tabulate
 length_tabulate zero f = refl
 length_tabulate (suc n) f = ap suc (length_tabulate n (λ i. f (suc i)))
 
-pub get_d_tabulate : (n : ℕ) (f : ℕ → ℕ) (i : ℕ) → i < n → get_or (tabulate n f) i 0 ≡ f i
+pub get_or_tabulate : (n : ℕ) (f : ℕ → ℕ) (i : ℕ) → i < n → get_or (tabulate n f) i 0 ≡ f i
 unfolding tabulate
-get_d_tabulate zero f i h = absurd (not-suc-le-zero h)
-get_d_tabulate (suc n) f zero h = refl
-get_d_tabulate (suc n) f (suc i) h = get_d_tabulate n (λ k. f (suc k)) i (le_of_suc-le-suc h)
+get_or_tabulate zero f i h = absurd (not-suc-le-zero h)
+get_or_tabulate (suc n) f zero h = refl
+get_or_tabulate (suc n) f (suc i) h = get_or_tabulate n (λ k. f (suc k)) i (le_of_suc-le-suc h)

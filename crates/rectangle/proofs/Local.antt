@@ -7,7 +7,7 @@ use native.Mathlib.Omega.{arith}
 use borrow.Author.Rules.{rules}
 use lib.ListN.{length, get_or, get_or-eq_default}
 use lib.Seq.{ext_get_or}
-use Rattle.laws.specs.Tabulate.{length_tabulate, get_d_tabulate}
+use Rattle.laws.specs.Tabulate.{length_tabulate, get_or_tabulate}
 use Rattle.laws.proofs.Tests.{below?}
 use Rattle.rectangle.specs.declared.Rect.{Rect}
 use Rattle.rectangle.specs.declared.Edit.{Edit}
@@ -26,7 +26,7 @@ module _ (r : Rect) (m : Motion) (fill : ℕ) (s : List ℕ) where
 
   pub edited_at : (i : ℕ) → i < 1920 → get_or (edited r m fill s) i 0 ≡ edited_cell r m fill (λ k. get_or s k 0) i
   unfolding edited
-  edited_at = get_d_tabulate 1920 _
+  edited_at = get_or_tabulate 1920 _
 
   edited_past : (i : ℕ) → 1920 ≤ i → get_or (edited r m fill s) i 0 ≡ 0
   edited_past i h = get_or-eq_default (edited r m fill s) 0 {n = i} (omega (arith, length_edited))

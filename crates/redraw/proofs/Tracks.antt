@@ -7,7 +7,7 @@ use mathlib.Core.List.{List}
 use lib.Dec.{ltb}
 use lib.ListN.{length, get_or}
 use lib.Seq.{ext_get_or}
-use Rattle.laws.specs.Tabulate.{tabulate, length_tabulate, get_d_tabulate}
+use Rattle.laws.specs.Tabulate.{tabulate, length_tabulate, get_or_tabulate}
 use Rattle.laws.proofs.Tests.{tested, not_both, by_test, or_first, or_second}
 use Rattle.rectangle.specs.declared.Rect.{Rect}
 use Rattle.rectangle.specs.Cells.{line_of}
@@ -101,7 +101,7 @@ unfolding redrawn
 redraws lines s t l same =
     ext_get_or 0 (tabulate 1920 cell) t (length_tabulate 1920 cell ∙ sym l) λ k h.
     let small : k < 1920 = rw (length_tabulate 1920 cell) at h in
-    get_d_tabulate 1920 cell k small
+    get_or_tabulate 1920 cell k small
     ∙ by_test (λ (b : ℕ). b ≡ get_or t k 0) (lines (line_of k)) (λ _. refl) (λ off. ⊎_elim (λ e. sym e) (λ on. absurd (not_both on off)) (same k))
   where
     cell : ℕ → ℕ

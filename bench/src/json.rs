@@ -4,6 +4,8 @@
 pub enum Json {
     Text(String),
     Number(usize),
+    /// `null`, `true` or `false`, which no size depends on.
+    Word,
     List(Vec<Json>),
     Object(Vec<(String, Json)>),
 }
@@ -57,6 +59,7 @@ impl Reader<'_> {
             b'"' => self.text().map(Json::Text),
             b'[' => self.sequence(b']', Reader::value).map(Json::List),
             b'{' => self.sequence(b'}', Reader::member).map(Json::Object),
+            b'a'..=b'z' => self.word(),
             _ => self.number().map(Json::Number),
         }
     }
@@ -83,6 +86,13 @@ impl Reader<'_> {
         let length = rest.iter().position(|&byte| byte == b'"')?;
         self.at += length + 1;
         String::from_utf8(rest[..length].to_vec()).ok()
+    }
+
+    /// null, true or false.
+    fn word(&mut self) -> Option<Json> {
+        let rest = &self.bytes[self.at..];
+        self.at += rest.iter().position(|byte| !byte.is_ascii_lowercase())?;
+        Some(Json::Word)
     }
 
     fn number(&mut self) -> Option<usize> {

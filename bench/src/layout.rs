@@ -51,7 +51,7 @@ impl Types {
         if let Some(bits) = field.get("Int").and_then(Json::number) {
             return Ok(Layout { size: bits / 8, alignment: bits / 8 });
         }
-        if let Some(name) = field.get("Named").and_then(|named| named.get("name")?.text()) {
+        if let Some(name) = field.get("Named").and_then(|named| named.list()?.first()?.get("name")?.text()) {
             return self.layout(name);
         }
         match field.get("Array").and_then(Json::list) {

@@ -2,7 +2,7 @@
 // What is read and printed is no part of any contract; the work is `console`'s.
 #![tactic(auto)]
 
-ghost use Rattle.std.specs.Prelude.{◌≤◌, ◌<◌, length, IfOk};
+ghost use Rattle.std.specs.Prelude.{◌≤◌, ◌<◌, length};
 
 use session::{Session, feed, fresh_session};
 use std::io;
@@ -46,9 +46,9 @@ fn print_cursor(rt: &impl Print, at: Session) -> io::Result<()> {
     println!(rt; "cursor {column} {line} bells {bells}")
 }
 
-// Reads until the piece is full or the input ends, and says how many bytes of it are the input's.
-fn read_full<R: Read>(input: &mut R, piece: &mut [u8]) -> io::Result<usize>
-    ensures { IfOk result (λ n. n ≤ length piece.old) }
+// Reads until the piece is full or the input ends, and says how many bytes of it are the input's. A read that fails ends it too.
+fn read_full<R: Read>(input: &mut R, piece: &mut [u8]) -> usize
+    ensures { result ≤ length piece.old }
 {
     let mut got = 0;
     for _ in 0..u64::MAX {
@@ -59,10 +59,10 @@ fn read_full<R: Read>(input: &mut R, piece: &mut [u8]) -> io::Result<usize>
             Ok(0) => break,
             Ok(n) => got += n,
             Err(e) if e.kind() == ErrorKind::Interrupted => {}
-            Err(e) => return Err(e),
+            Err(_) => break,
         }
     }
-    Ok(got)
+    got
 }
 
 // The session after a piece, and whether more of the input may follow.
@@ -73,31 +73,31 @@ struct Piece {
 }
 
 // The next 4,096 bytes of the input, or what is left of it, in one write. A stream may be cut anywhere.
-fn read_piece<R: Read>(input: &mut R, screen: &mut [u8], at: Session) -> io::Result<Piece> {
+fn read_piece<R: Read>(input: &mut R, screen: &mut [u8], at: Session) -> Piece {
     let mut piece = [0u8; 4096];
-    let got = read_full(input, &mut piece)?;
-    Ok(Piece {
+    let got = read_full(input, &mut piece);
+    Piece {
         session: feed(screen, at, &piece[..got]),
         more: got == 4096,
-    })
+    }
 }
 
 // The input to its end or to 1,048,576 bytes: 256 pieces.
-fn read_all<R: Read>(input: &mut R, screen: &mut [u8], at: Session) -> io::Result<Session> {
+fn read_all<R: Read>(input: &mut R, screen: &mut [u8], at: Session) -> Session {
     let mut now = at;
     for _ in 0..256 {
-        let piece = read_piece(input, screen, now)?;
+        let piece = read_piece(input, screen, now);
         now = piece.session;
         if !piece.more {
             break;
         }
     }
-    Ok(now)
+    now
 }
 
 fn main(rt: HostRuntime) -> io::Result<()> {
     let mut screen = [0xA0u8; 1920];
-    let end = read_all(&mut rt.reader(), &mut screen, fresh_session())?;
+    let end = read_all(&mut rt.reader(), &mut screen, fresh_session());
     print_screen(&rt, &screen)?;
     print_cursor(&rt, end)
 }

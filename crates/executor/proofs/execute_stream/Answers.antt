@@ -1,4 +1,5 @@
 -- `executor::execute_stream` meets its contract: the loop keeps that what is left of the stream, done from here, is what was asked; bells so far are at most the bytes so far. Assumes nothing.
+use Prim.Native.Nat.{◌≤◌}
 use native.Mathlib.Omega.{arith}
 use lib.ListN.{get_or}
 use borrow.Author.Rules.{rules}
@@ -50,7 +51,7 @@ pub overflow_add-bells : goal.overflow_add-bells
 overflow_add-bells c = let at = c.loop-i in
     let few = at.invariant.0.few in
     let more = c.loop-i-test.true in
-    let one = at_most_one at.active.waiting (get_or c.args.bytes.now at.i 0) c.bells_of-bells.ensures in
+    let one : c.bells_of-bells.result ≤ 1 = search (at_most_one, rules) in
     let fits = c.well_formed.1.1 in
     omega arith
 

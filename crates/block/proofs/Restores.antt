@@ -7,7 +7,8 @@ use native.Mathlib.Omega.{arith}
 use lib.ListN.{length, get_or, get_or-eq_default}
 use lib.Seq.{ext_get_or}
 use Rattle.laws.specs.Tabulate.{length_tabulate, get_or_tabulate}
-use Rattle.laws.proofs.Tests.{below?, by_test}
+use Rattle.std.proofs.lemmas.Bool.{cases_lt}
+use Rattle.laws.proofs.Tests.{by_test}
 use Rattle.rectangle.specs.declared.Rect.{Rect}
 use Rattle.rectangle.specs.Rectangles.{OnScreen, Within}
 use Rattle.rectangle.specs.Cells.{Inside, inside}
@@ -33,7 +34,7 @@ module _ (r : Rect) (block s : List ℕ) where
       ⊎_elim
       (λ h. get_or_tabulate 1920 _ i h ∙ by_test (λ b. b ≡ get_or s i 0) (inside r i) (λ e. absurd (out ((decides_inside r i).holds e))) (λ e. refl))
       (λ h. get_or-eq_default (restored r block s) 0 {n = i} (omega (arith, length_restored)) ∙ sym (get_or-eq_default s 0 (omega arith)))
-      (below? i 1920)
+      (cases_lt i 1920)
 
 -- a block handed out and put straight back changes nothing
 pub restore_returned : (r : Rect) (s : List ℕ) → OnScreen r → length s ≡ 1920 → restored r (block_of r s) s ≡ s

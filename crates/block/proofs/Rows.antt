@@ -3,22 +3,18 @@ use Prim.Native.Nat.{ℕ, zero, suc, ◌+◌, ◌-◌, ◌*◌, ◌≤◌, ◌<�
 use mathlib.Core.Path.{◌≡◌, refl, sym, ap, ◌∙◌}
 use mathlib.Core.Bool.{true}
 use mathlib.Core.List.{List, ◌∷◌}
-use native.Mathlib.Nat.{mul_comm, mul-le-mul, mul-le-mul_right}
+use native.Mathlib.Nat.{mul_comm, mul-le-mul_right}
 use native.Mathlib.Omega.{arith}
 use borrow.Author.Rules.{rules}
 use borrow.Author.Tests.{eq-eqb}
 use lib.ListN.{length, get_or, length-append, length-take, length-drop, get_or-append}
 use lib.Seq.{get_or-take, get_or-drop, get_or-append-add, ext_get_or}
-use Rattle.laws.proofs.Tests.{and_both}
+use Rattle.std.proofs.lemmas.Bool.{and_from}
 use Rattle.rectangle.specs.declared.Rect.{Rect}
 use Rattle.rectangle.specs.Cells.{column_of, line_of, Inside}
 use Rattle.rectangle.specs.Rectangles.{OnScreen, width_of, height_of}
 use Rattle.rectangle.specs.Local.{Agree}
 use Rattle.block.specs.Block.{block_length, row_start, row_cells, rows_from, block_of, block_fits, block_place}
-
--- a product of two counts of columns or lines is small
-pub product_small : (a b : ℕ) → a ≤ 80 → b ≤ 80 → a * b ≤ 6400
-product_small a b h k = mul-le-mul h k
 
 -- a row lies on the screen
 pub row_fits : (r : Rect) (row : ℕ) → OnScreen r → row < height_of r → row_start r row + width_of r ≤ 1920
@@ -66,7 +62,7 @@ length_block r s fits l = omega (arith, length_rows r s fits l 0 (height_of r) (
 
 pub block_fits_lem : (r : Rect) (s : List ℕ) → OnScreen r → length s ≡ 1920 → block_fits r (block_of r s) ≡ true
 unfolding block_fits block_of
-block_fits_lem r s fits l = and_both _ _ (eq-eqb _ _ (length_block r s fits l)) (and_both _ _ (eq-eqb (width_of r) (width_of r) refl) (eq-eqb (height_of r) (height_of r) refl))
+block_fits_lem r s fits l = and_from _ _ (eq-eqb _ _ (length_block r s fits l)) (and_from _ _ (eq-eqb (width_of r) (width_of r) refl) (eq-eqb (height_of r) (height_of r) refl))
 
 -- where a row lies in a block, and what it holds there
 pub row_in_block : (r : Rect) (row : ℕ) → row < height_of r → 2 + row * width_of r + width_of r ≤ block_length r

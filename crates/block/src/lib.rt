@@ -8,7 +8,7 @@ ghost use Rattle.rectangle.specs.Rectangles.{OnScreen, width_of, height_of};
 ghost use Rattle.block.specs.Block.{block_length, block_fits, row_stretch, block_of, restored};
 
 use rectangle::{Rect, height_of, width_of};
-use screen::{part_of_line, read_cells, write_cells};
+use screen::{Screen, part_of_line, read_cells, write_cells};
 
 // The bytes of a block: 2 + width x height.
 pub fn block_length(rect: Rect) -> usize
@@ -29,7 +29,7 @@ pub fn block_fits(rect: Rect, block: &[u8]) -> bool
     false
 }
 
-// A row of the rectangle, 0 at the top: that stretch of the lent screen itself.
+// A row of the rectangle, 0 at the top: that stretch of the lent screen itself, which is a slice, as the host's own is (`IsPart screen.entry`).
 pub fn row_stretch(screen: &[u8], rect: Rect, row: usize) -> &[u8]
     requires { OnScreen rect × (row < height_of rect) × (length screen.now ≡ 1920) }
     ensures { IsPart screen.entry result (row_stretch rect row) }
@@ -45,38 +45,43 @@ pub fn row_stretch(screen: &[u8], rect: Rect, row: usize) -> &[u8]
 // Where a row of the rectangle starts in a block, whose first two bytes are width and height.
 fn row_place(rect: Rect, row: usize) -> usize
     requires { OnScreen rect × (row < height_of rect) }
-    ensures { result ≡ 2 + row * width_of rect }
+    ensures place { result ≡ 2 + row * width_of rect }
+    ensures in_block { result + width_of rect ≤ block_length rect }
 {
     2 + row * (width_of(rect) as usize)
 }
 
 // The cells of the rectangle fill the front of the block; the bytes beyond stay.
-pub fn copy_out(screen: &[u8], rect: Rect, block: &mut [u8])
-    requires { OnScreen rect × (length screen.now ≡ 1920) × (block_length rect ≤ length block.old) }
+pub fn copy_out(screen: &Screen, rect: Rect, block: &mut [u8])
+    requires { OnScreen rect × (block_length rect ≤ length block.old) }
     ensures { block.new ≡ block_of rect screen.now ++ drop (block_length rect) block.old }
 {
     let columns = width_of(rect);
     let lines = height_of(rect);
     block[0] = columns;
     block[1] = lines;
-    let count = columns as usize;
     let left = rect.left as usize;
     let top = rect.top as usize;
+    // Not by chunks of the block: of chunks that are written a proof knows their number, and not what they end as.
     for row in 0..(lines as usize) {
-        read_cells(screen, left, top + row, count, block, row_place(rect, row));
+        let place = row_place(rect, row);
+        let cells = &mut block[place..place + columns as usize];
+        read_cells(screen, left, top + row, cells);
     }
 }
 
 // The cells of the rectangle become those of the block.
-pub fn copy_in(screen: &mut [u8], rect: Rect, block: &[u8])
-    requires { OnScreen rect × (length screen.old ≡ 1920) × (length block.now ≡ block_length rect) }
+pub fn copy_in(screen: &mut Screen, rect: Rect, block: &[u8])
+    requires { OnScreen rect × (length block.now ≡ block_length rect) }
     ensures { screen.new ≡ restored rect block.now screen.old }
 {
-    let count = width_of(rect) as usize;
+    let columns = width_of(rect) as usize;
     let lines = height_of(rect) as usize;
     let left = rect.left as usize;
     let top = rect.top as usize;
+    // The mirror of `copy_out`, by the same places: chunks of the block would read alike, but be another proof.
     for row in 0..lines {
-        write_cells(screen, left, top + row, count, block, row_place(rect, row));
+        let place = row_place(rect, row);
+        write_cells(screen, left, top + row, &block[place..place + columns]);
     }
 }

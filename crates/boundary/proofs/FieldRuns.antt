@@ -1,31 +1,20 @@
 -- Each way through a call on an input field. Assumes nothing.
 use Prim.Native.Nat.{ℕ, ◌≤◌, ◌<◌}
 use mathlib.Core.Path.{◌≡◌, refl, sym}
-use mathlib.Core.List.{List, [], ◌∷◌, ◌++◌}
+use mathlib.Core.List.{List, ◌++◌}
 use borrow.Author.Tests.{lt-ltb, le-ltb}
-use lib.ListN.{length, set, take, drop}
-use lib.Seq.{sets-eq}
+use lib.ListN.{length, take, drop}
 use denote.Ref.{Bor}
 use Rattle.editing.specs.declared.State.{State}
 use Rattle.editing.proofs.Texts.{copied_laid}
-use Rattle.field.specs.declared.Status.{Status}
 use Rattle.field.specs.declared.Ending.{Ending}
-use Rattle.field.specs.declared.Ending.TheVariants.{None}
+use Rattle.std.specs.Prelude.{Option, None}
 use Rattle.field.specs.declared.StartAnswer.{StartAnswer}
 use Rattle.field.specs.declared.KeysAnswer.{KeysAnswer}
-use Rattle.field.specs.Statuses.{status_number}
-use Rattle.field.specs.Endings.{ending_of, ending_key}
+use Rattle.field.specs.Endings.{ending_of}
 use Rattle.field.specs.Calls.{Replies, start_call, keys_call, Part, of_buffer, of_default, text_call, IsText, text_bytes}
 use Rattle.boundary.specs.Run.{Runs}
 use Rattle.boundary.specs.Fields.{numbers_of, start_run, keys_run, text_run}
-
--- six stores, one after another
-pub six_stored : (s : List ℕ) (a b c d e f : ℕ) → 6 ≤ length s → set (set (set (set (set (set s 0 a) 1 b) 2 c) 3 d) 4 e) 5 f ≡ (a ∷ b ∷ c ∷ d ∷ e ∷ f ∷ []) ++ drop 6 s
-six_stored s a b c d e f h = sets-eq (a ∷ b ∷ c ∷ d ∷ e ∷ f ∷ []) s 0 h
-
-pub numbers_stored : (s : List ℕ) (status : Status) (state : State) (read beeps number key : ℕ) (ending : Ending) → number ≡ status_number status → key ≡ ending_key ending → 6 ≤ length s
-    → set (set (set (set (set (set s 0 number) 1 state.length) 2 state.cursor) 3 read) 4 beeps) 5 key ≡ numbers_of status state read beeps ending ++ drop 6 s
-numbers_stored s status state read beeps number key ending is_number is_key h = rw (is_number, is_key) (six_stored s _ _ _ _ _ _ h)
 
 module _ (width maximum : ℕ) (default b answer : List ℕ) where
   pub start_short : length answer < 6 → Runs (start_run width maximum default b answer) 0 b answer
@@ -55,7 +44,7 @@ text_bytes_lem : (part : Part) (default buffer r : Bor (List ℕ)) → IsText pa
 text_bytes_lem (of_buffer x) default buffer r is = is.bytes
 text_bytes_lem (of_default x) default buffer r is = is.bytes
 
-module _ (width maximum : ℕ) (state : State) (key : ℕ) (ending : Ending) (default buffer r : Bor (List ℕ)) (answer : List ℕ) (is_ending : ending ≡ ending_of key)
+module _ (width maximum : ℕ) (state : State) (key : ℕ) (ending : Option Ending) (default buffer r : Bor (List ℕ)) (answer : List ℕ) (is_ending : ending ≡ ending_of key)
     (is : IsText (text_call width maximum (length default.now) (length buffer.now) state ending) default buffer r) where
   bytes : text_bytes (text_call width maximum (length default.now) (length buffer.now) state (ending_of key)) default.now buffer.now ≡ r.now
   bytes = rw (← is_ending) (sym (text_bytes_lem (text_call width maximum (length default.now) (length buffer.now) state ending) default buffer r is))

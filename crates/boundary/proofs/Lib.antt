@@ -1,4 +1,3 @@
--- `Calls`: where a call that was found lies. `Streams`: each way through a run of a stream. `FieldRuns`: each way through a call on an input field.
-pub mod Calls
+-- `Streams`: each way through a run of a stream. `FieldRuns`: each way through a call on an input field.
 pub mod Streams
 pub mod FieldRuns

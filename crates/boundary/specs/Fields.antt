@@ -1,10 +1,9 @@
 -- What a call on an input field answers, in numbers. Assumes nothing.
-use Rattle.std.specs.Prelude.{ℕ, cond, List, [], ◌∷◌, ◌++◌, ltb, length, drop}
+use Rattle.std.specs.Prelude.{ℕ, cond, List, [], ◌∷◌, ◌++◌, ltb, length, drop, Option, None}
 use Rattle.editing.specs.declared.State.{State}
 use Rattle.editing.specs.Buffer.{laid}
 use Rattle.field.specs.declared.Status.{Status}
 use Rattle.field.specs.declared.Ending.{Ending}
-use Rattle.field.specs.declared.Ending.TheVariants.{None}
 use Rattle.field.specs.Statuses.{status_number}
 use Rattle.field.specs.Endings.{ending_of, ending_key}
 use Rattle.field.specs.Calls.{start_call, keys_call, text_call, text_bytes}
@@ -14,7 +13,7 @@ abbrev pub state_at : ℕ → ℕ → State
 state_at length cursor = record { length = length; cursor = cursor }
 
 -- the number of the status, length and cursor, keys read, beeps, and the ending's key, 0 for none
-abbrev pub numbers_of : Status → State → ℕ → ℕ → Ending → List ℕ
+abbrev pub numbers_of : Status → State → ℕ → ℕ → Option Ending → List ℕ
 numbers_of status state read beeps ending = status_number status ∷ state.length ∷ state.cursor ∷ read ∷ beeps ∷ ending_key ending ∷ []
 
 -- they lie in front of the answer, if it has room for six

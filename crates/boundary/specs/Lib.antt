@@ -1,4 +1,4 @@
--- `Script`: where the calls of a script lie. `Run`: what an export leaves. `Stream`: what a run of a stream answers. `Fields`: what a call on an input field answers.
+-- `Script`: what is said of a script of calls. `Run`: what an export leaves. `Stream`: what a run of a stream answers. `Fields`: what a call on an input field answers.
 pub mod Script
 pub mod Run
 pub mod Stream

@@ -1,16 +1,18 @@
--- Where a call lies in a script: all that is said of a script. Assumes nothing.
-use Rattle.std.specs.Prelude.{ℕ, ◌+◌, ◌≤◌, ◌<◌}
-use Rattle.boundary.specs.declared.script.Call.{Call}
-use Rattle.boundary.specs.declared.script.Parsed.{Parsed}
-use Rattle.boundary.specs.declared.script.Parsed.TheVariants as parsed
+-- What is said of a script: the bytes that a call lends, the length of its answer, and what is left of the script after it. Assumes nothing.
+use Rattle.std.specs.Prelude.{ℕ, ◌≡◌, ◌+◌, ◌-◌, ◌≤◌, List, [], length, drop}
+use Rattle.boundary.specs.declared.script.Request.{Request}
+use Rattle.boundary.specs.declared.script.Request.TheVariants as request
 
--- in a script of this size
-pub record Lies (size : ℕ) (c : Call) : Type 0 where
-  pub ordered : c.start ≤ c.end
-  pub within : c.end ≤ size
-  pub lent_within : c.start + c.lent ≤ c.end
+-- a block return's block: the bytes that a call may change
+abbrev pub lent_of : Request → List ℕ
+lent_of (request.ReturnBlock block) = block.now
+lent_of _ = []
 
--- .. and past a place of it
-abbrev pub LiesPast : ℕ → ℕ → Parsed → Type 0
-LiesPast size at parsed.End = Unit {0}
-LiesPast size at (parsed.Call c) = Lies size c × (at < c.end)
+-- the status, the count and the marks that the call returned, a returned block, the marks of the four slots, and every byte of the lent screen
+abbrev pub answer_length : Request → ℕ → ℕ
+answer_length call cells = 25 + length (lent_of call) + cells
+
+-- what is left of a script where some bytes, or none, are taken off its front
+pub record IsTail (script rest : List ℕ) : Type 0 where
+  pub within : length rest ≤ length script
+  pub tail : rest ≡ drop (length script - length rest) script

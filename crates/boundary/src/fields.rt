@@ -1,29 +1,27 @@
-// An input field's calls, in numbers and slices: the state comes in as its length and its cursor, and an ending as its key.
+// An input field's calls, in numbers and slices: the state comes in as its length and its cursor, and an ending as its key. The names and the parameters are those of the C interface, and so is a result of 0 where nothing was done (`Runs`).
 ghost use Rattle.std.specs.Prelude.{◌≤◌, ◌≡◌, ◌++◌, length, drop};
 ghost use Rattle.boundary.specs.Run.{Runs};
 ghost use Rattle.boundary.specs.Fields.{state_at, numbers_of, start_run, keys_run, text_run};
 
 use editing::State;
-use field::{Ending, Status, ending_key, ending_of, keys, start, status_number, text};
+use field::{
+    KeysAnswer, Settings, StartAnswer, ending_key, ending_of, keys, start, status_number, text,
+};
 
 // The status, length and cursor, keys read, beeps, and the ending's key.
-fn put_numbers(
-    answer: &mut [usize],
-    status: Status,
-    state: State,
-    read: usize,
-    beeps: usize,
-    ending: Ending,
-)
+fn put_numbers(answer: &mut [usize], typed: KeysAnswer)
     requires { 6 ≤ length answer.old }
-    ensures { answer.new ≡ numbers_of status state read beeps ending ++ drop 6 answer.old }
+    ensures { answer.new ≡ numbers_of typed.status typed.state typed.read typed.beeps typed.ending ++ drop 6 answer.old }
 {
-    answer[0] = status_number(status) as usize;
-    answer[1] = state.length;
-    answer[2] = state.cursor;
-    answer[3] = read;
-    answer[4] = beeps;
-    answer[5] = ending_key(ending) as usize;
+    let numbers = [
+        status_number(typed.status) as usize,
+        typed.state.length,
+        typed.state.cursor,
+        typed.read,
+        typed.beeps,
+        ending_key(typed.ending) as usize,
+    ];
+    answer[..6].copy_from_slice(&numbers);
 }
 
 // A start. The result is the length of the answer (`put_numbers`), or 0, with nothing done, where there is no room for it.
@@ -40,9 +38,22 @@ pub extern "C" fn combthrift_field_start(
     if answer.len() < 6 {
         return 0;
     }
-    let started = start(width, maximum, default, buffer);
-    let status = started.status;
-    put_numbers(answer, status, started.state, 0, 0, Ending::None);
+    let settings = Settings {
+        width,
+        maximum,
+        default,
+    };
+    let StartAnswer { status, state } = start(&settings, buffer);
+    put_numbers(
+        answer,
+        KeysAnswer {
+            status,
+            state,
+            read: 0,
+            beeps: 0,
+            ending: None,
+        },
+    );
     6
 }
 
@@ -63,17 +74,13 @@ pub extern "C" fn combthrift_field_keys(
     if answer.len() < 6 {
         return 0;
     }
-    let typed = keys(
+    let settings = Settings {
         width,
         maximum,
         default,
-        buffer,
-        State { length, cursor },
-        stream,
-    );
-    let status = typed.status;
-    let ending = typed.ending;
-    put_numbers(answer, status, typed.state, typed.read, typed.beeps, ending);
+    };
+    let typed = keys(&settings, buffer, State { length, cursor }, stream);
+    put_numbers(answer, typed);
     6
 }
 
@@ -91,10 +98,13 @@ pub extern "C" fn combthrift_field_text<'a>(
 ) -> usize
     ensures { Runs (text_run width maximum default.now buffer.now (state_at length cursor) ending answer.old) result buffer.now answer.new }
 {
-    let chosen = text(
+    let settings = Settings {
         width,
         maximum,
         default,
+    };
+    let chosen = text(
+        &settings,
         buffer,
         State { length, cursor },
         ending_of(ending),

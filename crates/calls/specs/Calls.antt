@@ -10,7 +10,6 @@ use Rattle.port.specs.Stream.{stream}
 use Rattle.reply.specs.declared.Status.{Status}
 use Rattle.reply.specs.declared.Status.TheVariants.{Done, BlockTooShort, BlockMismatch}
 use Rattle.reply.specs.Reply.{Reply, refusal}
-use Rattle.calls.specs.declared.Answer.{Answer}
 
 -- what a call on a port leaves; its result is a count
 abbrev pub PortReply : Type 0
@@ -43,6 +42,3 @@ block_restored p s block =
     cond (block_fits p.view.viewport block)
     (record { status = Done; state = viewport_marked p; result = 0; screen = restored p.view.viewport block s; block = block })
     (refusal BlockMismatch p s block)
-
-abbrev pub answer_of : Status → Port → ℕ → Answer
-answer_of status port count = record { status = status; port = port; count = count }

@@ -6,7 +6,6 @@ use Rattle.port.specs.State.{with_marks}
 use Rattle.reply.specs.declared.Status.{Status}
 use Rattle.reply.specs.declared.Status.TheVariants.{Done}
 use Rattle.reply.specs.Reply.{Reply}
-use Rattle.calls.specs.declared.Taking.{Taking}
 
 -- what a taking hands out
 pub record Taken : Type 0 where
@@ -23,6 +22,3 @@ none_taken = taken_of no_marks 0
 -- a taking, on a valid port: it changes no cell and no lent byte
 unfoldable pub marks_taken : Port → List ℕ → List ℕ → Reply Status Port Taken
 marks_taken p s block = record { status = Done; state = with_marks p no_marks; result = taken_of p.marks (line_count p.marks); screen = s; block = block }
-
-abbrev pub taking_of : Status → Port → Taken → Taking
-taking_of status port taken = record { status = status; port = port; marks = taken.marks; count = taken.count }

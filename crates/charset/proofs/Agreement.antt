@@ -1,16 +1,17 @@
 -- A table agrees with the range rule: a test of each of its entries, and the law that makes the rule of it. No number of the table stands here.
--- antt computes the test once, in the proof of `table_copy`; other functions have the agreement from that one's contract. Assumes nothing.
-use Prim.Native.Nat.{ℕ, zero, suc, ◌+◌, ◌*◌, ◌/◌, ◌%◌, ◌<◌}
+-- antt computes the test once, for this crate's table, in `Entries`. Assumes nothing.
+use Prim.Native.Nat.{ℕ, zero, suc, ◌+◌, ◌*◌, ◌-◌, ◌/◌, ◌%◌, ◌≤◌, ◌<◌}
 use mathlib.Core.Path.{◌≡◌, refl, ap, ◌∙◌, subst, sym}
 use mathlib.Core.Bool.{Bool, true, false, cond, ◌&&◌}
 use mathlib.Core.List.{List, [], ◌∷◌}
 use native.Mathlib.Nat.{add-zero, add-suc, suc-add, le_of_suc-le-suc, not-suc-le-zero}
 use native.Mathlib.Omega.{arith}
 use lib.Dec.{T, eqb, eqb→eq}
-use lib.ListN.{length, get_or}
+use lib.ListN.{length, get_or, take, drop, length-drop}
+use lib.Seq.{length-take-le, get_or-take, get_or-drop}
 use Rattle.charset.specs.declared.Mode.{Mode}
 use Rattle.charset.specs.declared.Mode.TheVariants.{Normal, Inverse, MouseText}
-use Rattle.charset.specs.Stored.{Agrees, row_of, stored_byte}
+use Rattle.charset.specs.Stored.{Agrees, IsRow, row_of, stored_byte}
 
 both_left : (a b : Bool) → T (a && b) → T a
 both_left true b t = tt
@@ -57,14 +58,12 @@ agrees table len test = record { entry = at_entry }
         let at_code : (0 + entry) % 256 ≡ code = omega arith in
         eqb→eq _ _ (every_at right table 0 test entry (omega arith)) ∙ (λ i. stored_byte (mode_at (in_row i)) (at_code i)) ∙ ap (λ (m : Mode). stored_byte m code) row.0
 
--- what is read at a mode's start and a code
-pub looked_up : (table : List ℕ) (mode : Mode) (start code : ℕ) → Agrees table → start ≡ 256 * row_of mode → code < 256 → get_or table (start + code) 0 ≡ stored_byte mode code
-looked_up table mode start code a e small = rw e (a.entry mode code small)
-
--- the stored byte in an arm, where the mode is known
-pub in_arm : (mode m : Mode) (code byte : ℕ) → mode ≡ m → byte ≡ stored_byte m code → byte ≡ stored_byte mode code
-in_arm mode m code byte e stored = rw e stored
-
--- a mode has one of the three rows
-pub row_below : (mode : Mode) → row_of mode < 3
-row_below mode = (row_mode mode).1
+-- the 256 entries of a table from a mode's start on are its row
+pub row_at : (table : List ℕ) (mode : Mode) (start end : ℕ) → length table ≡ 768 → Agrees table → start ≡ 256 * row_of mode → start ≤ 512 → end ≡ start + 256
+    → IsRow mode (take (end - start) (drop start table))
+row_at table mode start end len a e small is_end =
+    let size : end - start ≡ 256 = omega arith in
+    record {
+      size = rw size (length-take-le 256 (drop start table) (simp length-drop (omega arith)));
+      entry = λ code h. rw size (get_or-take 256 (drop start table) code 0 h ∙ get_or-drop start table code 0 ∙ rw e (a.entry mode code h));
+    }

@@ -1,2 +1,3 @@
--- `Agreement`: a test over a whole table shows that it agrees with the range rule.
+-- `Agreement`: a test over a whole table shows that it agrees with the range rule. `Entries`: this crate's table does.
 pub mod Agreement
+pub mod Entries

@@ -1,5 +1,5 @@
 -- Paper 01, 'From code to stored byte', as request 03 of paper 02 mends it: the range rule, and what it is for a table to agree with it. Assumes nothing.
-use Rattle.std.specs.Prelude.{ℕ, ◌+◌, ◌-◌, ◌*◌, ◌≤◌, ◌<◌, ◌≡◌, Bool, cond, ◌&&◌, ◌||◌, List, leb, get_or}
+use Rattle.std.specs.Prelude.{ℕ, ◌+◌, ◌-◌, ◌*◌, ◌≤◌, ◌<◌, ◌≡◌, Bool, cond, ◌&&◌, ◌||◌, List, leb, length, get_or}
 use Rattle.charset.specs.declared.Mode.{Mode}
 use Rattle.charset.specs.declared.Mode.TheVariants.{Normal, Inverse, MouseText}
 
@@ -51,3 +51,8 @@ row_of MouseText = 2
 -- 'table and rule agree at every entry'
 pub record Agrees (table : List ℕ) : Type 0 where
   pub entry : (mode : Mode) (code : ℕ) → code < 256 → get_or table (256 * row_of mode + code) 0 ≡ stored_byte mode code
+
+-- .. of which this is a mode's row
+pub record IsRow (mode : Mode) (row : List ℕ) : Type 0 where
+  pub size : length row ≡ 256
+  pub entry : (code : ℕ) → code < 256 → get_or row code 0 ≡ stored_byte mode code

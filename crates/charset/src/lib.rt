@@ -4,54 +4,38 @@
 
 pub mod table;
 
-ghost use Rattle.std.specs.Prelude.{◌≡◌, ◌*◌};
-ghost use Rattle.charset.specs.Stored.{Agrees, row_of, stored_byte};
+ghost use Rattle.std.specs.Prelude.{◌≡◌, ◌*◌, ◌≤◌};
+ghost use Rattle.charset.specs.Stored.{row_of, IsRow, stored_byte};
 
 use table::STORED;
 
-// How printing codes look. MouseText is inverse with MouseText on.
-#[derive(Clone, Copy)]
+// How printing codes look. MouseText is inverse with MouseText on. A mode's number is its row of the table.
+#[derive(Clone, Copy, PartialEq, Eq, Debug)]
 pub enum Mode {
-    Normal,
-    Inverse,
-    MouseText,
-}
-
-// The table, for a caller to hold while it prints: a constant is made anew wherever it is read.
-pub fn table_copy() -> [u8; 768]
-    ensures { Agrees result }
-{
-    STORED
+    Normal = 0,
+    Inverse = 1,
+    MouseText = 2,
 }
 
 // Where a mode's 256 entries start.
 fn row_start(mode: Mode) -> usize
-    ensures { result ≡ 256 * row_of mode }
+    ensures place { result ≡ 256 * row_of mode }
+    ensures in_table { result ≤ 512 }
 {
-    match mode {
-        Mode::Normal => 0,
-        Mode::Inverse => 256,
-        Mode::MouseText => 512,
-    }
+    256 * (mode as usize)
+}
+
+// A mode's row of the table: the stored bytes of its 256 codes.
+pub fn stored_row(mode: Mode) -> &'static [u8; 256]
+    ensures { IsRow mode result.now }
+{
+    let start = row_start(mode);
+    STORED[start..start + 256].as_array().unwrap()
 }
 
 // The byte that a code is stored as.
-pub fn stored_byte(table: &[u8; 768], mode: Mode, code: u8) -> u8
-    requires { Agrees table.now }
+pub fn stored_byte(mode: Mode, code: u8) -> u8
     ensures { result ≡ stored_byte mode code }
 {
-    let entry = row_start(mode) + code as usize;
-    table[entry]
-}
-
-// The same for a code that comes alone, with no table at hand.
-// An arm for each mode: where the compiler knows the mode, it makes no entry past that mode's row, so in normal mode a third of the table.
-pub fn stored_alone(mode: Mode, code: u8) -> u8
-    ensures { result ≡ stored_byte mode code }
-{
-    match mode {
-        Mode::Normal => stored_byte(&table_copy(), Mode::Normal, code),
-        Mode::Inverse => stored_byte(&table_copy(), Mode::Inverse, code),
-        Mode::MouseText => stored_byte(&table_copy(), Mode::MouseText, code),
-    }
+    stored_row(mode)[code as usize]
 }

@@ -6,7 +6,8 @@ use mathlib.Core.Logic.{⊎_elim}
 use mathlib.Core.List.{List, [], ◌∷◌}
 use lib.Dec.{leb}
 use lib.ListN.{length}
-use Rattle.laws.proofs.Tests.{tested, not_both, below?, Decides, decides_le, decides_lt, decides_eq, decides_both, decides_as}
+use Rattle.std.proofs.lemmas.Bool.{cases_Bool, both_ways, cases_lt}
+use Rattle.laws.proofs.Tests.{Decides, decides_le, decides_lt, decides_eq, decides_both, decides_as}
 use Rattle.rectangle.specs.declared.Rect.{Rect}
 use Rattle.rectangle.proofs.Rectangles.{decides_legal}
 use Rattle.block.specs.Block.{block_length, block_fits}
@@ -23,7 +24,8 @@ use Rattle.slots.specs.State.{slot_at, Open, Free, Closed, slot_of}
 use Rattle.slots.specs.Valid.{ValidMultiplexer}
 use Rattle.slots.proofs.Validity.{decides_multiplexer}
 use Rattle.slots.proofs.Slots.{decides_client, slot_client, slot_found, slot_open}
-use Rattle.multiplexer.specs.Located.{multiplexer_verdict, claim_verdict, free_slot_for, open_slot, verdict_first, client_slot, claim_slot, located_on}
+use Rattle.calls.specs.Verdict.{first_of}
+use Rattle.multiplexer.specs.Located.{multiplexer_verdict, claim_verdict, free_slot_for, open_slot, client_slot, claim_slot, located_on}
 use Rattle.multiplexer.specs.Calls.{on_slot, on_client, write_call, return_call, restore_call, take_call, opened_at, open_call, closed_at, close_call}
 use Rattle.multiplexer.proofs.Claims.{decides_pane_shared}
 use Rattle.multiplexer.proofs.Replying.{slot_status, by_screen}
@@ -37,7 +39,7 @@ decides_fits r block =
 decides_full : (m : Multiplexer) → Decides (leb 4 (slot_of m 0)) ((i : ℕ) → Free m i → ⊥)
 decides_full m =
     decides_as (decides_le 4 (slot_of m 0)) (λ h i free. let room = slot_found m 0 i free.0 free.1 in omega arith)
-    (λ full. ⊎_elim (λ h. absurd (full (slot_of m 0) (h, slot_client m 0 h))) (λ h. h) (below? (slot_of m 0) 4))
+    (λ full. ⊎_elim (λ h. absurd (full (slot_of m 0) (h, slot_client m 0 h))) (λ h. h) (cases_lt (slot_of m 0) 4))
 
 -- the status of a reply
 abbrev port_replied : PortReply → Status
@@ -60,9 +62,9 @@ module _ (m : Multiplexer) (s : List ℕ) (n : ℕ) (r : Rect) (block : List ℕ
   client_first : {Result : Type 0} (nothing : Result) (s' block' : List ℕ) (reply : ℕ → Reply Status Multiplexer Result) {xs : List Status}
       → (ValidMultiplexer m → (i : ℕ) → Open m i → (slot_at m i).client ≡ n → First Done (Applies m s n r block) (reply i).status xs)
       → First Done (Applies m s n r block) (slot_status nothing m s' block' reply (client_slot m n)) (Invalid ∷ NotOpen ∷ xs)
-  unfolding multiplexer_verdict open_slot verdict_first on_slot
+  unfolding multiplexer_verdict open_slot first_of on_slot
   client_first nothing s' block' reply rest =
-      refused_unless (λ j. slot_status nothing m s' block' reply (verdict_first j (open_slot m n))) (decides_multiplexer m) (λ k. k) (λ p k. k p) refl λ v.
+      refused_unless (λ j. slot_status nothing m s' block' reply (first_of j (open_slot m n))) (decides_multiplexer m) (λ k. k) (λ p k. k p) refl λ v.
       refused_not (slot_status nothing m s' block' reply) (decides_client m n) (λ k i o e. k (i, o, e)) (λ k closed. closed k.0 k.1 k.2) refl λ k.
       rw (slot_open m v k.0 n k.1 k.2) (rest v k.0 k.1 k.2)
 
@@ -100,12 +102,12 @@ module _ (m : Multiplexer) (s : List ℕ) (n : ℕ) (r : Rect) (block : List ℕ
   take_first = client_first none_taken [] [] _ (λ v i o e. none refl)
 
   claim_first : First Done (Applies m s n r block) (slot_status 0 m s [] (opened_at m s n r) (claim_slot m n r)) (Invalid ∷ ClientZero ∷ PaneIllegal ∷ ClientTaken ∷ PaneShared ∷ Full ∷ [])
-  unfolding multiplexer_verdict claim_verdict free_slot_for verdict_first on_slot
+  unfolding multiplexer_verdict claim_verdict free_slot_for first_of on_slot
   claim_first =
       let given = slot_status 0 m s [] (opened_at m s n r) in
-      refused_unless (λ j. given (verdict_first j (verdict_first (claim_verdict n r) (free_slot_for m n r)))) (decides_multiplexer m) (λ k. k) (λ p k. k p) refl λ v.
-      refused_if (λ j. given (verdict_first j (free_slot_for m n r))) (decides_eq n 0) refl λ _.
-      refused_not (λ j. given (verdict_first j (free_slot_for m n r))) (decides_legal r) (λ k. k) (λ p k. k p) refl λ legal.
+      refused_unless (λ j. given (first_of j (first_of (claim_verdict n r) (free_slot_for m n r)))) (decides_multiplexer m) (λ k. k) (λ p k. k p) refl λ v.
+      refused_if (λ j. given (first_of j (free_slot_for m n r))) (decides_eq n 0) refl λ _.
+      refused_not (λ j. given (first_of j (free_slot_for m n r))) (decides_legal r) (λ k. k) (λ p k. k p) refl λ legal.
       refused_if given (decides_client m n) refl λ _.
       refused_if given (decides_pane_shared m v r legal) refl λ _.
       refused_if given (decides_full m) refl λ _.
@@ -156,12 +158,12 @@ slot_statuses m s n block i g =
       write_done = a.writing.each.1.whenever (tt, found);
       return_done =
           exactly_as a.returning.each.1.1
-          (λ k. ⊎_elim (λ h. absurd (k.1 (i, g.is_open, g.client, h))) (λ h. h) (below? _ _))
+          (λ k. ⊎_elim (λ h. absurd (k.1 (i, g.is_open, g.client, h))) (λ h. h) (cases_lt _ _))
           (λ h. ((tt, found), λ k. let l = too_short m s n r block i g k in omega arith));
       return_short = exactly_as a.returning.each.1.0 (λ k. too_short m s n r block i g k.1) (λ h. ((tt, found), (i, g.is_open, g.client, h)));
       restore_done =
           exactly_as a.restoring.each.1.1
-          (λ k. ⊎_elim (decides_fits _ _).holds (λ h. absurd (k.1 (i, g.is_open, g.client, λ f. not_both ((decides_fits _ _).passes f) h))) (tested _))
+          (λ k. ⊎_elim (decides_fits _ _).holds (λ h. absurd (k.1 (i, g.is_open, g.client, λ f. both_ways _ h ((decides_fits _ _).passes f)))) (cases_Bool _))
           (λ h. ((tt, found), λ k. mismatched m s n r block i g k h));
       restore_mismatch = exactly_as a.restoring.each.1.0 (λ k. mismatched m s n r block i g k.1) (λ h. ((tt, found), (i, g.is_open, g.client, h)));
     }

@@ -7,7 +7,8 @@ use mathlib.Core.List.{List, [], ◌++◌}
 use mathlib.Core.Logic.{⊎_elim}
 use lib.Dec.{ltb}
 use lib.ListN.{length, get_or, drop}
-use Rattle.laws.proofs.Tests.{tested, by_test}
+use Rattle.std.proofs.lemmas.Bool.{cases_Bool}
+use Rattle.laws.proofs.Tests.{by_test}
 use Rattle.rectangle.specs.declared.Rect.{Rect}
 use Rattle.rectangle.specs.Cells.{Inside}
 use Rattle.rectangle.specs.Local.{Agree, Local}
@@ -78,10 +79,10 @@ module _ (p : Port) (v : ValidPort p) where
       ⊎_elim
       (λ e. rw e (other_cells p.home _ t agree))
       (λ e. rw e (record { status = refl; state = refl; result = refl; block = ap (λ x. x ++ drop (block_length p.view.viewport) block) same; cells = agree }))
-      (tested (ltb (length block) (block_length p.view.viewport)))
+      (cases_Bool (ltb (length block) (block_length p.view.viewport)))
   alike_call (Restore block) s t l l' agree =
       ⊎_elim
       (λ e. rw e (other_cells p.home _ _ ((restore_local block).same s t l l' agree)))
       (λ e. rw e (other_cells p.home _ t agree))
-      (tested (block_fits p.view.viewport block))
+      (cases_Bool (block_fits p.view.viewport block))
   alike_call Take s t l l' agree = other_cells p.home (marks_taken p s []) t agree

@@ -5,6 +5,7 @@ use mathlib.Core.Bool.{Bool, true, false, cond}
 use mathlib.Core.List.{List, []}
 use lib.Dec.{ltb}
 use lib.ListN.{length}
+use Rattle.std.specs.Prelude.{Ok, Err}
 use Rattle.laws.proofs.Tests.{fails}
 use Rattle.block.specs.Block.{block_length, block_fits}
 use Rattle.port.specs.declared.Port.{Port}
@@ -14,7 +15,6 @@ use Rattle.reply.specs.declared.Status.{Status}
 use Rattle.reply.specs.declared.Status.TheVariants.{Done, ScreenLength, Invalid, BlockTooShort, BlockMismatch}
 use Rattle.reply.specs.Reply.{Reply, refusal, refusal_with}
 use Rattle.reply.specs.Laws.{ChangesNothing}
-use Rattle.calls.specs.declared.Verdict.TheVariants.{Accepted, Refused}
 use Rattle.calls.specs.Verdict.{first_of}
 use Rattle.calls.specs.Calls.{PortReply, PortCall, written, block_returned, block_restored}
 use Rattle.calls.specs.Taking.{Taken, none_taken, marks_taken}
@@ -24,15 +24,15 @@ use Rattle.console.specs.Calls.{port_verdict, plain_verdict, plain_call, write_c
 
 -- 1 where there are not 1,920 cells, then 2 where the port is not valid, and else none
 module _ (p : Port) (s : List ℕ) where
-  pub verdict_good : ValidPort p → length s ≡ 1920 → plain_verdict p (length s) ≡ Accepted
+  pub verdict_good : ValidPort p → length s ≡ 1920 → plain_verdict p (length s) ≡ Ok tt
   unfolding plain_verdict first_of port_verdict
   verdict_good v len = rw (on_screen (length s) len, (decides_valid p).passes v)
 
-  verdict_length : (length s ≡ 1920 → ⊥) → plain_verdict p (length s) ≡ Refused ScreenLength
+  verdict_length : (length s ≡ 1920 → ⊥) → plain_verdict p (length s) ≡ Err ScreenLength
   unfolding plain_verdict first_of
   verdict_length no_screen = rw (off_screen (length s) no_screen)
 
-  verdict_port : length s ≡ 1920 → (ValidPort p → ⊥) → plain_verdict p (length s) ≡ Refused Invalid
+  verdict_port : length s ≡ 1920 → (ValidPort p → ⊥) → plain_verdict p (length s) ≡ Err Invalid
   unfolding plain_verdict first_of port_verdict
   verdict_port len bad = rw (on_screen (length s) len, fails (decides_valid p) bad)
 

@@ -1,5 +1,5 @@
 -- Paper 01, 'What comes back' and 'Blocks, rows, one byte', and request 02: the plain calls, with their refusals. Assumes nothing.
-use Rattle.std.specs.Prelude.{ℕ, cond, ◌&&◌, [], ltb, length}
+use Rattle.std.specs.Prelude.{ℕ, cond, ◌&&◌, [], ltb, length, Err}
 use Rattle.laws.specs.Parts.{Stretch, no_stretch}
 use Rattle.rectangle.specs.Rectangles.{whole_screen, height_of}
 use Rattle.screen.specs.Size.{is_screen}
@@ -10,9 +10,7 @@ use Rattle.port.specs.Valid.{valid_port}
 use Rattle.reply.specs.declared.Status.{Status}
 use Rattle.reply.specs.declared.Status.TheVariants.{Invalid}
 use Rattle.reply.specs.Reply.{Reply}
-use Rattle.calls.specs.declared.Verdict.{Verdict}
-use Rattle.calls.specs.declared.Verdict.TheVariants.{Accepted, Refused}
-use Rattle.calls.specs.Verdict.{screen_verdict, first_of, on_verdict}
+use Rattle.calls.specs.Verdict.{Verdict, accepted, screen_verdict, first_of, on_verdict}
 use Rattle.calls.specs.Calls.{PortCall, written, block_returned, block_restored}
 use Rattle.calls.specs.Taking.{Taken, none_taken, marks_taken}
 
@@ -22,7 +20,7 @@ fresh_console = fresh_port whole_screen
 
 -- 2 if 'the port .. handed in is not sound'
 unfoldable pub port_verdict : Port → Verdict
-port_verdict p = cond (valid_port p) Accepted (Refused Invalid)
+port_verdict p = cond (valid_port p) accepted (Err Invalid)
 
 -- 1 before it, of a call that takes a screen
 unfoldable pub plain_verdict : Port → ℕ → Verdict

@@ -18,9 +18,8 @@ use Rattle.port.specs.Step as port
 use Rattle.port.specs.Keeps.{KeepsView}
 use Rattle.port.proofs.Prints.{step_controls}
 use Rattle.port.proofs.Views.{keeps_spaces}
-use Rattle.view.specs.declared.Moved.{Moved}
 use Rattle.view.specs.declared.ViewPlan.{ViewPlan}
-use Rattle.view.specs.Plan.{effect_of, plan_effect}
+use Rattle.view.specs.Plan.{effect_of}
 use Rattle.view.specs.Place.{space_count}
 use Rattle.view.proofs.Places.{spaces_are}
 use Rattle.printer.specs.Execute.{AllOnScreen, Drew, Obeyed}
@@ -36,12 +35,9 @@ on_screen_effect {v} {e} h k = on_screen v.viewport h.legal.right_in h.legal.bot
 plan_on_screen : (d : Effect) {v : View} {e : Effect} → d ≡ e → Placed v → KeepsView v.viewport v e → AllOnScreen d.edits
 plan_on_screen d is h k = subst (λ (x : Effect). AllOnScreen x.edits) (sym is) (on_screen_effect h k)
 
--- of a plan of one edit, and of two: a search finds the plan by its type
-pub moved_on_screen : (m : Moved) {v : View} {e : Effect} → effect_of m ≡ e → Placed v → KeepsView v.viewport v e → AllOnScreen (effect_of m).edits
-moved_on_screen m = plan_on_screen (effect_of m)
-
-pub planned_on_screen : (m : ViewPlan) {v : View} {e : Effect} → plan_effect m ≡ e → Placed v → KeepsView v.viewport v e → AllOnScreen (plan_effect m).edits
-planned_on_screen m = plan_on_screen (plan_effect m)
+-- of a plan: a search finds it by its type
+pub planned_on_screen : {n : ℕ} (m : ViewPlan n) {v : View} {e : Effect} → effect_of m ≡ e → Placed v → KeepsView v.viewport v e → AllOnScreen (effect_of m).edits
+planned_on_screen m = plan_on_screen (effect_of m)
 
 pub spaces_on_screen : (n : ℕ) (v : View) → Placed v → AllOnScreen (print_spaces n v).edits
 spaces_on_screen n v h = on_screen_effect h (keeps_spaces v.viewport n v h)

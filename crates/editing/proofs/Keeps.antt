@@ -9,7 +9,8 @@ use borrow.Author.Tests.{eqb-false, ltb-false}
 use lib.Dec.{ltb, eqb}
 use lib.ListN.{length, take, drop}
 use lib.Seq.{length-take-le}
-use Rattle.laws.proofs.Tests.{by_test, or_left, or_right}
+use Rattle.std.proofs.lemmas.Bool.{or_parts}
+use Rattle.laws.proofs.Tests.{by_test}
 use Rattle.editing.specs.Keys.{Content, Settings, Effect, becomes, beep, start_content, inserted, removed, insert, move_left, move_right, delete_left, delete_under, delete_all, delete_to_end, restore_default, is_printing_key, press}
 use Rattle.editing.specs.Buffer.{laid, settings, state_of, Within, Ready}
 use Rattle.editing.proofs.Texts.{length_inserted, length_removed, length_laid, behind_laid}
@@ -72,8 +73,8 @@ module _ (width maximum : ℕ) where
     unfolding insert
     keeps_insert key =
         by_test Keeps (ltb maximum (length c.text + 1) || eqb c.cursor width) (λ _. h) λ e.
-        let room = ltb-false maximum (length c.text + 1) (or_left _ _ e) in
-        let left = eqb-false c.cursor width (or_right (ltb maximum (length c.text + 1)) _ e) in
+        let room = ltb-false maximum (length c.text + 1) ((or_parts _ _ e).0) in
+        let left = eqb-false c.cursor width ((or_parts (ltb maximum (length c.text + 1)) _ e).1) in
         let len = length_inserted c.text c.cursor key h.cursor_in_text in
         within (inserted c.cursor key c.text) (c.cursor + 1) (omega (arith, h)) (omega (arith, h)) (omega (arith, h))
 
@@ -85,8 +86,8 @@ module _ (width maximum : ℕ) where
     unfolding move_right
     keeps_right =
         by_test Keeps (eqb c.cursor (length c.text) || eqb c.cursor width) (λ _. h) λ e.
-        let inner = eqb-false c.cursor (length c.text) (or_left _ _ e) in
-        let left = eqb-false c.cursor width (or_right (eqb c.cursor (length c.text)) _ e) in
+        let inner = eqb-false c.cursor (length c.text) ((or_parts _ _ e).0) in
+        let left = eqb-false c.cursor width ((or_parts (eqb c.cursor (length c.text)) _ e).1) in
         within c.text (c.cursor + 1) h.length_within (omega (arith, h)) (omega (arith, h))
 
     keeps_removed : (at cursor : ℕ) → at < length c.text → cursor ≤ at → at ≤ c.cursor → Keeps (becomes (removed at c.text) cursor)
@@ -129,12 +130,12 @@ keeps_press f c key fits h =
     h
 
 -- a field that is ready for a key is ready for the next one too; the buffer stays as long as it was, and no byte from the maximum on is changed
-module _ (width maximum : ℕ) (default b : List ℕ) (c : Content) (key : ℕ) (h : Ready width maximum (length default) (length b) (state_of c)) where
+module _ (width maximum : ℕ) (default b : List ℕ) (c : Content) (key : ℕ) (fits : length default ≤ maximum) (h : Ready width maximum (length b) (state_of c)) where
   abbrev pressed : Content
   pressed = (press (settings width maximum default) c key).content
 
   kept : Within width maximum (state_of pressed)
-  kept = keeps_press (settings width maximum default) c key h.default_fits h.within
+  kept = keeps_press (settings width maximum default) c key fits h.within
 
   pub length_pressed : length (laid pressed.text b) ≡ length b
   length_pressed = length_laid pressed.text b (omega (arith, kept.length_within, h.room))
@@ -142,5 +143,5 @@ module _ (width maximum : ℕ) (default b : List ℕ) (c : Content) (key : ℕ) 
   pub behind_pressed : drop maximum (laid pressed.text b) ≡ drop maximum b
   behind_pressed = behind_laid pressed.text b maximum kept.length_within
 
-  pub ready_press : Ready width maximum (length default) (length (laid pressed.text b)) (state_of pressed)
-  ready_press = rw length_pressed (record { within = kept; small = h.small; room = h.room; default_fits = h.default_fits })
+  pub ready_press : Ready width maximum (length (laid pressed.text b)) (state_of pressed)
+  ready_press = rw length_pressed (record { within = kept; room = h.room })

@@ -1,4 +1,4 @@
--- `Texts`: the text in front of a buffer. `Pasting`: the loops that move bytes. `Pressing`: each way through the function of a key. `Keeps`: what every key keeps.
+-- `Texts`: the text in front of a buffer. `Pasting`: bytes that are copied within a buffer. `Pressing`: each way through the function of a key. `Keeps`: what every key keeps.
 pub mod Texts
 mod Pasting
 pub mod Pressing

@@ -8,7 +8,8 @@ use native.Mathlib.Omega.{arith}
 use lib.Dec.{eqb}
 use lib.ListN.{length, get_or}
 use borrow.Author.Tests.{eqb-true}
-use Rattle.laws.proofs.Tests.{below?, and_left, and_right, Decides, decides_eq, decides_both, decides_as}
+use Rattle.std.proofs.lemmas.Bool.{cases_lt}
+use Rattle.laws.proofs.Tests.{and_left, and_right, Decides, decides_eq, decides_both, decides_as}
 use Rattle.rectangle.specs.declared.Rect.{Rect}
 use Rattle.rectangle.specs.declared.Edit.{Edit}
 use Rattle.rectangle.specs.Edit.{draw, draw_cell}
@@ -36,7 +37,7 @@ every_below (suc n) f = f n && every_below n f
 below_at : (n : ℕ) (f : ℕ → Bool) → every_below n f ≡ true → (i : ℕ) → i < n → f i ≡ true
 below_at zero f e i h = absurd (omega arith)
 below_at (suc n) f e i h =
-    ⊎_elim (λ k. below_at n f (and_right (f n) (every_below n f) e) i k) (λ k. let same : i ≡ n = omega arith in rw same (and_left (f n) (every_below n f) e)) (below? i n)
+    ⊎_elim (λ k. below_at n f (and_right (f n) (every_below n f) e) i k) (λ k. let same : i ≡ n = omega arith in rw same (and_left (f n) (every_below n f) e)) (cases_lt i n)
 
 abbrev same_rect : Rect → Rect → Bool
 same_rect r q = (eqb r.left q.left && eqb r.top q.top) && (eqb r.right q.right && eqb r.bottom q.bottom)

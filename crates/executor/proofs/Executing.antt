@@ -1,43 +1,37 @@
 -- The loop over a stream. Assumes nothing.
-use Prim.Native.Nat.{ℕ, ◌+◌, ◌≤◌, ◌<◌}
+use Prim.Native.Nat.{ℕ, ◌+◌, ◌-◌, ◌≤◌, ◌<◌}
 use mathlib.Core.Path.{◌≡◌, refl, sym, ap, ◌∙◌, subst}
 use mathlib.Core.Bool.{Bool, true, false, cond, ◌&&◌, ◌||◌, true≢false}
 use mathlib.Core.Logic.{◌⊎◌, inl, inr, ⊎_elim}
 use mathlib.Core.List.{List, [], ◌∷◌, ◌++◌}
 use native.Mathlib.Omega.{arith}
 use native.Mathlib.Nat.{add_assoc, add-zero, zero-add}
+use Rattle.std.proofs.Common.{add-one}
+use Rattle.std.proofs.lemmas.List.{take_all}
 use lib.Dec.{ltb, eqb}
-use lib.ListN.{length, take, drop, get_or, take-append-drop}
-use lib.Seq.{drop-drop, drop-length}
-use borrow.Author.Tests.{eqb-true, eqb-false, eq-eqb, ne_eqb, leb-true, leb-false, lt-ltb}
-use Rattle.laws.proofs.Tests.{by_test, and_left, and_right}
-use Rattle.laws.proofs.Lists.{alone_taken}
+use lib.ListN.{length, take, drop, get_or, take-append-drop, length-drop}
+use borrow.Author.Tests.{eqb-true, eqb-false, ne_eqb, lt-ltb, eq-eqb}
+use Rattle.laws.proofs.Tests.{by_test}
 use Rattle.rectangle.specs.declared.Rect.{Rect}
 use Rattle.rectangle.specs.Edit.{draw}
-use Rattle.charset.specs.Stored.{is_printing, Printing, stored_byte}
+use Rattle.charset.specs.Stored.{Printing}
 use Rattle.port.specs.declared.View.{View}
 use Rattle.port.specs.declared.Port.{Port}
 use Rattle.port.specs.State.{with_view, with_drawn}
 use Rattle.port.specs.Valid.{parameters, ValidPort}
-use Rattle.port.specs.Codes.{mode_of, print_byte}
 use Rattle.port.specs.Step.{Outcome, becomes_port, pop, control, step}
 use Rattle.port.specs.Stream.{stream}
 use Rattle.port.proofs.Validity.{no_parameters_lem}
 use Rattle.port.proofs.Streams.{keeps_stream}
 use Rattle.port.proofs.Outcomes.{step_bells, one_bell}
 use Rattle.port.proofs.Prints.{step_controls}
-use Rattle.printer.specs.Execute.{Drew, Obeyed, Executed}
+use Rattle.printer.specs.Execute.{Obeyed, Executed}
 use Rattle.printer.specs.Print.{Placed, Printed}
-use Rattle.printer.proofs.Draws.{length_draw}
-use Rattle.printer.proofs.Codes.{cut_executed, nothing_executed, single_executed, code_executed}
+use Rattle.printer.proofs.Codes.{cut_executed, nothing_executed, single_executed}
 use Rattle.control.specs.declared.active.Active.{Active}
 use Rattle.control.specs.Active.{active_of, with_active}
 use Rattle.control.specs.Active as active
 use Rattle.control.specs.Obey.{Ready}
-
--- the cells stay 1,920
-pub same_size : {m : Outcome} {q : Port} {n : ℕ} {s t : List ℕ} → Executed m q n s t → length s ≡ 1920 → length t ≡ length s
-same_size {m} {q} {n} {s} d len = ap length d.cells ∙ length_draw m.edits s len ∙ sym len
 
 -- what a valid port's byte needs
 at_most_four : (code : ℕ) → parameters code ≤ 4
@@ -61,15 +55,7 @@ placed_view p h = let v = h.view in record { legal = v.legal; within = omega ari
 some_wanted : (p : Port) → ValidPort p → (p.waiting ≡ 0 → ⊥) → 0 < parameters p.waiting
 some_wanted p h waits = ⊎_elim (λ e. absurd (waits e)) (λ some. some) h.wait.known
 
--- what the tests of the code show: a printing code, $01 or $04, or another control code
-pub is_printed : (waiting b : ℕ) (test : Bool) → test ≡ (eqb waiting 0 && is_printing b) → test ≡ true → (waiting ≡ 0) × Printing b
-is_printed waiting b test is t =
-    let both = sym is ∙ t in
-    (eqb-true waiting 0 (and_left (eqb waiting 0) (is_printing b) both), leb-true 32 b (and_right (eqb waiting 0) (is_printing b) both))
-
-pub printed_waits : (waiting b : ℕ) (test : Bool) → test ≡ (eqb waiting 0 && is_printing b) → test ≡ true → waiting ≡ 0
-printed_waits waiting b test is t = (is_printed waiting b test is t).0
-
+-- what the tests of the code show: $01 or $04, or another control code
 is_either : (b : ℕ) → (eqb b 1 || eqb b 4) ≡ true → (b ≡ 1) ⊎ (b ≡ 4)
 is_either b t = by (eqb b 1) (eqb b 4) (eqb-true b 1) (eqb-true b 4) t
   where
@@ -77,12 +63,8 @@ is_either b t = by (eqb b 1) (eqb b 4) (eqb-true b 1) (eqb-true b 4) t
     by true y one four e = inl (one refl)
     by false y one four e = inr (four e)
 
-module _ (waiting b : ℕ) (test : Bool) (is : test ≡ (eqb waiting 0 && (eqb b 1 || eqb b 4))) (t : test ≡ true) where
-  pub saved_waits : waiting ≡ 0
-  saved_waits = eqb-true waiting 0 (and_left (eqb waiting 0) (eqb b 1 || eqb b 4) (sym is ∙ t))
-
-  pub is_saved : (b ≡ 1) ⊎ (b ≡ 4)
-  is_saved = is_either b (and_right (eqb waiting 0) (eqb b 1 || eqb b 4) (sym is ∙ t))
+pub is_saved : (b : ℕ) (test : Bool) → test ≡ (eqb b 1 || eqb b 4) → test ≡ true → (b ≡ 1) ⊎ (b ≡ 4)
+is_saved b test is t = is_either b (sym is ∙ t)
 
 neither : (b : ℕ) → (eqb b 1 || eqb b 4) ≡ false → (b ≡ 1 → ⊥) × (b ≡ 4 → ⊥)
 neither b t = by (eqb b 1) (eqb b 4) (eqb-false b 1) (eqb-false b 4) t
@@ -91,12 +73,8 @@ neither b t = by (eqb b 1) (eqb b 4) (eqb-false b 1) (eqb-false b 4) t
     by true y one four e = absurd (true≢false e)
     by false y one four e = (one refl, four e)
 
-pub is_controlled : (waiting b : ℕ) (printed saved : Bool) → printed ≡ (eqb waiting 0 && is_printing b) → printed ≡ false → saved ≡ (eqb waiting 0 && (eqb b 1 || eqb b 4)) → saved ≡ false
-    → waiting ≡ 0
-    → (b < 32) × (b ≡ 1 → ⊥) × (b ≡ 4 → ⊥)
-is_controlled waiting b printed saved is f is' f' none =
-    let other = neither b (rw (eq-eqb waiting 0 none) at (sym is' ∙ f')) in
-    (leb-false 32 b (rw (eq-eqb waiting 0 none) at (sym is ∙ f)), other.0, other.1)
+pub is_controlled : (b : ℕ) (saved : Bool) → b < 32 → saved ≡ (eqb b 1 || eqb b 4) → saved ≡ false → (b < 32) × (b ≡ 1 → ⊥) × (b ≡ 4 → ⊥)
+is_controlled b saved small is f = let other = neither b (sym is ∙ f) in (small, other.0, other.1)
 
 pub is_ready : (p : Port) (a : Active) (b : ℕ) → ValidPort (with_active p a) → (a.waiting ≡ 0 → (b < 32) × (b ≡ 1 → ⊥) × (b ≡ 4 → ⊥)) → Ready a b
 is_ready p a b h code =
@@ -118,8 +96,15 @@ rung_by p b h {n} is = ⊎_elim nothing something h.wait.known ∙ sym (step_bel
     something some =
         simp (lt-ltb 0 (parameters p.waiting) some) (rw (ne_eqb p.waiting 0 (λ e. no_parameters_lem p.waiting e some)) at is)
 
-pub at_most_one : (waiting b : ℕ) {n : ℕ} → n ≡ cond (eqb waiting 0 && eqb b 7) 1 0 → n ≤ 1
-at_most_one waiting b {n} is = subst (λ (k : ℕ). k ≤ 1) (sym is) (by_test (λ (k : ℕ). k ≤ 1) (eqb waiting 0 && eqb b 7) (λ _. omega arith) (λ _. omega arith))
+pub at_most_one : (b : ℕ) {n : ℕ} → n ≡ cond (eqb b 7) 1 0 → n ≤ 1
+at_most_one b {n} is = subst (λ (k : ℕ). k ≤ 1) (sym is) (by_test (λ (k : ℕ). k ≤ 1) (eqb b 7) (λ _. omega arith) (λ _. omega arith))
+
+-- what the loop adds for a byte: a code's bells, and none for a parameter
+pub rung_as_code : (waiting b rung now k : ℕ) → waiting ≡ 0 → k ≡ cond (eqb b 7) 1 0 → now ≡ rung + k → now ≡ rung + cond (eqb waiting 0 && eqb b 7) 1 0
+rung_as_code waiting b rung now k none is sum = sum ∙ ap (λ (n : ℕ). rung + n) is ∙ rw (eq-eqb waiting 0 none)
+
+pub rung_as_parameter : (waiting b rung now : ℕ) → (waiting ≡ 0 → ⊥) → now ≡ rung → now ≡ rung + cond (eqb waiting 0 && eqb b 7) 1 0
+rung_as_parameter waiting b rung now some same = same ∙ sym (add-zero rung) ∙ rw (ne_eqb waiting 0 some)
 
 -- the port in an equal view
 pub in_view : {q : Port} (p : Port) (u v : View) → q ≡ with_view p u → u ≡ v → q ≡ with_view p v
@@ -137,91 +122,87 @@ unfolding control pop
 saving_keeps_home p next code saves either =
     ⊎_elim (λ e. ap (λ (m : Outcome). m.port.home) (saves ∙ ap (control p) e)) (λ e. ap (λ (m : Outcome). m.port.home) (saves ∙ ap (control p) e)) either
 
--- a printing code alone
-pub single_printed : (p : Port) (b byte : ℕ) (test : Bool) {q : Port} {w : View} {after : ℕ} {s t : List ℕ} → test ≡ (eqb p.waiting 0 && is_printing b) → test ≡ true → byte ≡ stored_byte (mode_of p.view) b
-    → Drew (print_byte p.view byte) p.marks w after s t
-    → q ≡ with_drawn p w after
-    → Executed (stream p (b ∷ [])) q 0 s t
-single_printed p b byte test {q} {w} {after} {s} {t} is yes' stored drew to =
-    let printed = is_printed p.waiting b test is yes' in
-    subst (λ (x : Port). Executed (stream p (b ∷ [])) x 0 s t) (sym to) (single_executed p (with_drawn p w after) b 0 s t (code_executed p b byte printed.0 printed.1 stored w after s t drew))
-
 pub saved_home : (p : Port) (a : Active) (q : Port) {next : Port} {home : Rect} (code : ℕ) → q ≡ with_active p a → becomes_port next ≡ control q code → (code ≡ 1) ⊎ (code ≡ 4) → p.home ≡ home → next.home ≡ home
 saved_home p a q {next} code joined saves either at = saving_keeps_home q next code saves either ∙ ap (λ (x : Port). x.home) joined ∙ at
 
 -- ---- the loop: what is left of the stream, done from here, is what was asked
-pub record Streaming (p₀ : Port) (bs s₀ : List ℕ) (i : ℕ) (p : Port) (rung : ℕ) (s : List ℕ) : Type 0 where
-  pub long : length s ≡ 1920
+pub record Streaming (p₀ : Port) (bs s₀ left : List ℕ) (p : Port) (rung : ℕ) (s : List ℕ) : Type 0 where
   pub valid : ValidPort p
-  pub within : i ≤ length bs
-  pub few : rung ≤ i
-  pub rest : (q : Port) (n : ℕ) (t : List ℕ) → Executed (stream p (drop i bs)) q n s t → Executed (stream p₀ bs) q (rung + n) s₀ t
+  pub few : rung + length left ≤ length bs
+  pub rest : (q : Port) (n : ℕ) (t : List ℕ) → Executed (stream p left) q n s t → Executed (stream p₀ bs) q (rung + n) s₀ t
 
-pub streaming_starts : (p : Port) (bs s : List ℕ) {a : Active} → ValidPort p → length s ≡ 1920 → a ≡ active_of p → Streaming p bs s 0 (with_active p a) 0 s
-streaming_starts p bs s h len is = subst (λ (x : Active). Streaming p bs s 0 (with_active p x) 0 s) (sym is) (record {
-  long = len;
+pub streaming_starts : (p : Port) (bs s : List ℕ) {a : Active} → ValidPort p → a ≡ active_of p → Streaming p bs s bs (with_active p a) 0 s
+streaming_starts p bs s h is = subst (λ (x : Active). Streaming p bs s bs (with_active p x) 0 s) (sym is) (record {
   valid = h;
-  within = omega arith;
   few = omega arith;
   rest = λ q n t d. record { port_is = d.port_is; bells_are = zero-add n ∙ d.bells_are; cells = d.cells };
 })
 
-module _ {p₀ : Port} {bs s₀ : List ℕ} {i : ℕ} {p : Port} {rung : ℕ} {s : List ℕ} (r : Streaming p₀ bs s₀ i p rung s) where
-  -- n bytes, which ring k times
-  streaming_on : (q : Port) (n k : ℕ) (t : List ℕ) → i + n ≤ length bs → k ≤ n → Executed (stream p (take n (drop i bs))) q k s t → Streaming p₀ bs s₀ (i + n) q (rung + k) t
-  streaming_on q n k t inside few d = record {
-    long = same_size d r.long ∙ r.long;
-    valid = subst ValidPort (sym d.port_is) (keeps_stream p r.valid (take n (drop i bs))).valid;
-    within = omega arith;
+module _ {p₀ : Port} {bs s₀ left : List ℕ} {p : Port} {rung : ℕ} {s : List ℕ} (r : Streaming p₀ bs s₀ left p rung s) where
+  -- the first of the bytes left, which ring k times, and then the others
+  streaming_on : (first others : List ℕ) (q : Port) (k : ℕ) (t : List ℕ) → first ++ others ≡ left → k + length others ≤ length left → Executed (stream p first) q k s t → Streaming p₀ bs s₀ others q (rung + k) t
+  streaming_on first others q k t is less d = record {
+    valid = subst ValidPort (sym d.port_is) (keeps_stream p r.valid first).valid;
     few = let h = r.few in omega arith;
     rest = λ w m u e.
         subst (λ (x : ℕ). Executed (stream p₀ bs) w x s₀ u) (sym (add_assoc rung k m))
         (r.rest w (k + m) u
-        (subst (λ (x : List ℕ). Executed (stream p x) w (k + m) s u) (ap (λ (x : List ℕ). take n (drop i bs) ++ x) (sym (drop-drop n i bs)) ∙ take-append-drop n (drop i bs))
-        (cut_executed p q w (take n (drop i bs)) (drop (i + n) bs) k m s t u d e)));
+        (subst (λ (x : List ℕ). Executed (stream p x) w (k + m) s u) is
+        (cut_executed p q w first others k m s t u d e)));
   }
 
-  streaming_again : (q : Port) (k : ℕ) (t : List ℕ) → i < length bs → Executed (step p (get_or bs i 0)) q k s t → Streaming p₀ bs s₀ (i + 1) q (rung + k) t
-  streaming_again q k t more d =
-      let one = one_bell p (get_or bs i 0) in
-      let is = d.bells_are in
-      streaming_on q 1 k t (omega arith) (omega arith)
-      (subst (λ (x : List ℕ). Executed (stream p x) q k s t) (sym (alone_taken bs i more)) (single_executed p q (get_or bs i 0) k s t d))
+  streaming_again : (b : ℕ) (others : List ℕ) (q : Port) (k : ℕ) (t : List ℕ) → b ∷ others ≡ left → Executed (step p b) q k s t → Streaming p₀ bs s₀ others q (rung + k) t
+  streaming_again b others q k t is d =
+      let one = one_bell p b in
+      let rings = d.bells_are in
+      let long : length left ≡ length others + 1 = sym (ap length is) ∙ sym (add-one (length others)) in
+      streaming_on (b ∷ []) others q k t is (omega arith) (single_executed p q b k s t d)
 
   -- nothing is left
-  pub streaming_ends : length bs ≤ i → Executed (stream p₀ bs) p rung s₀ s
-  streaming_ends past =
-      let end : i ≡ length bs = let h = r.within in omega arith in
-      let none : drop i bs ≡ [] = ap (λ (n : ℕ). drop n bs) end ∙ drop-length bs in
+  pub streaming_ends : left ≡ [] → Executed (stream p₀ bs) p rung s₀ s
+  streaming_ends none =
       subst (λ (x : ℕ). Executed (stream p₀ bs) p x s₀ s) (add-zero rung)
       (r.rest p 0 s (subst (λ (x : List ℕ). Executed (stream p x) p 0 s s) (sym none) (nothing_executed p s)))
 
+-- the first byte of what is left
+pub first_prints : {left : List ℕ} (b : ℕ) (others : List ℕ) → left ≡ b ∷ others → Printing b → (0 < length left) × Printing (get_or left 0 0)
+first_prints b others is large = subst (λ (xs : List ℕ). (0 < length xs) × Printing (get_or xs 0 0)) (sym is) (omega arith, large)
+
+-- a slice from a place on is all that is left from there
+pub rest_from : (n : ℕ) (left : List ℕ) → take (length left - n) (drop n left) ≡ drop n left
+rest_from n left = take_all (length left - n) (drop n left) (omega (arith, length-drop n left))
+
+pub rest_shorter : (n : ℕ) (left : List ℕ) → 0 < n → n ≤ length left → length (take (length left - n) (drop n left)) < length left
+rest_shorter n left some inside = let e : length (take (length left - n) (drop n left)) ≡ length left - n = ap length (rest_from n left) ∙ length-drop n left in omega arith
+
+pub none_left : (left : List ℕ) → length left ≤ 0 → left ≡ []
+none_left [] few = refl
+none_left (b ∷ left) few = absurd (omega arith)
+
 -- ---- the three ways through the loop, from a port whose active part is carried apart
-module _ {p₀ : Port} {bs s₀ : List ℕ} {i : ℕ} (p : Port) (a : Active) {rung : ℕ} {s : List ℕ} (r : Streaming p₀ bs s₀ i (with_active p a) rung s) where
-  silent : (q : Port) (n : ℕ) (t : List ℕ) → i + n ≤ length bs → Executed (stream (with_active p a) (take n (drop i bs))) q 0 s t → Streaming p₀ bs s₀ (i + n) q rung t
-  silent q n t inside d = subst (λ (x : ℕ). Streaming p₀ bs s₀ (i + n) q x t) (add-zero rung) (streaming_on r q n 0 t inside (omega arith) d)
-
-  pub after_printing : (n : ℕ) (w : View) (marks : ℕ) (t : List ℕ) {a' : Active} → Printed a.view a.marks (take n (drop i bs)) w marks s t → i + n ≤ length bs → a.waiting ≡ 0 → a' ≡ active.with_drawn a w marks
-      → Streaming p₀ bs s₀ (i + n) (with_active p a') rung t
+module _ {p₀ : Port} {bs s₀ left : List ℕ} (p : Port) (a : Active) {rung : ℕ} {s : List ℕ} (r : Streaming p₀ bs s₀ left (with_active p a) rung s) where
+  pub after_printing : (n : ℕ) (w : View) (marks : ℕ) (t : List ℕ) {a' : Active} → Printed a.view a.marks (take n left) w marks s t → n ≤ length left → a.waiting ≡ 0 → a' ≡ active.with_drawn a w marks
+      → Streaming p₀ bs s₀ (take (length left - n) (drop n left)) (with_active p a') rung t
   after_printing n w marks t printed inside none is =
-      subst (λ (x : Active). Streaming p₀ bs s₀ (i + n) (with_active p x) rung t) (sym is)
-      (silent (with_drawn (with_active p a) w marks) n t inside (printed.as_stream (with_active p a) refl none refl))
+      rw (rest_from n left) (subst (λ (x : Active). Streaming p₀ bs s₀ (drop n left) (with_active p x) rung t) (sym is)
+      (subst (λ (x : ℕ). Streaming p₀ bs s₀ (drop n left) (with_drawn (with_active p a) w marks) x t) (add-zero rung)
+      (streaming_on r (take n left) (drop n left) (with_drawn (with_active p a) w marks) 0 t (take-append-drop n left) (omega (arith, length-drop n left)) (printed.as_stream (with_active p a) refl none refl))))
 
-  pub after_saving : (q : Port) {next : Port} {a' : Active} → q ≡ with_active p a → becomes_port next ≡ control q (get_or bs i 0) → a' ≡ active_of next → i < length bs → a.waiting ≡ 0 → (get_or bs i 0 ≡ 1) ⊎ (get_or bs i 0 ≡ 4)
-      → Streaming p₀ bs s₀ (i + 1) (with_active next a') rung s
+  pub after_saving : (b : ℕ) (others : List ℕ) (q : Port) {next : Port} {a' : Active} → b ∷ others ≡ left → q ≡ with_active p a → becomes_port next ≡ control q b → a' ≡ active_of next → a.waiting ≡ 0 → (b ≡ 1) ⊎ (b ≡ 4)
+      → Streaming p₀ bs s₀ others (with_active next a') rung s
   unfolding draw
-  after_saving q {next} joined saves split more none code =
-      let b : ℕ = get_or bs i 0 in
+  after_saving b others q {next} is joined saves split none code =
       let small : b < 32 = ⊎_elim (λ e. omega arith) (λ e. omega arith) code in
       let outcome : becomes_port next ≡ step (with_active p a) b = saves ∙ ap (λ (x : Port). control x b) joined ∙ sym (step_controls (with_active p a) b none small) in
       let executed : Executed (step (with_active p a) b) next 0 s s = subst (λ (m : Outcome). Executed m next 0 s s) outcome (record { port_is = refl; bells_are = refl; cells = refl }) in
-      subst (λ (x : Active). Streaming p₀ bs s₀ (i + 1) (with_active next x) rung s) (sym split)
-      (subst (λ (x : ℕ). Streaming p₀ bs s₀ (i + 1) next x s) (add-zero rung) (streaming_again r next 0 s more executed))
+      subst (λ (x : Active). Streaming p₀ bs s₀ others (with_active next x) rung s) (sym split)
+      (subst (λ (x : ℕ). Streaming p₀ bs s₀ others next x s) (add-zero rung) (streaming_again r b others next 0 s is executed))
 
-  pub after_control : (k : ℕ) (t : List ℕ) {a' : Active} → Obeyed (step (with_active p a) (get_or bs i 0)) (with_active p a') s t → k ≡ cond (eqb a.waiting 0 && eqb (get_or bs i 0) 7) 1 0 → i < length bs
-      → Streaming p₀ bs s₀ (i + 1) (with_active p a') (rung + k) t
-  after_control k t obeyed bells more =
-      streaming_again r _ k t more (record { port_is = obeyed.port_is; bells_are = rung_by (with_active p a) (get_or bs i 0) r.valid bells; cells = obeyed.cells })
+  pub after_control : (b : ℕ) (others : List ℕ) (now : ℕ) (t : List ℕ) {a' : Active} → b ∷ others ≡ left → Obeyed (step (with_active p a) b) (with_active p a') s t → now ≡ rung + cond (eqb a.waiting 0 && eqb b 7) 1 0
+      → Streaming p₀ bs s₀ others (with_active p a') now t
+  after_control b others now t {a'} is obeyed sum =
+      subst (λ (n : ℕ). Streaming p₀ bs s₀ others (with_active p a') n t) (sym sum)
+      (streaming_again r b others _ (cond (eqb a.waiting 0 && eqb b 7) 1 0) t is (record { port_is = obeyed.port_is; bells_are = rung_by (with_active p a) b r.valid refl; cells = obeyed.cells }))
 
 -- in the end the active part is put back
 pub joined_again : {m : Outcome} {q r : Port} {n : ℕ} {s t : List ℕ} → Executed m q n s t → r ≡ q → Executed m r n s t

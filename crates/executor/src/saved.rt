@@ -9,8 +9,7 @@ use port::state::{default_view, with_saved, with_view};
 fn push_and_reset(p: Port) -> Port
     ensures { result ≡ rules.push_and_reset p }
 {
-    let view = p.view;
-    with_view(with_saved(p, true, view), default_view(p))
+    with_view(with_saved(p, true, p.view), default_view(p))
 }
 
 // $04.
@@ -18,13 +17,12 @@ fn pop(p: Port) -> Port
     ensures { result ≡ rules.pop p }
 {
     if p.hassaved {
-        let saved = p.saved;
-        return with_view(p, saved);
+        return with_view(p, p.saved);
     }
     with_view(p, default_view(p))
 }
 
-// The one or the other.
+// The one or the other. The code stays the byte of the stream, as all codes do: the definitions (`control`) and the paper name them so.
 pub fn obey_on_saved(p: Port, code: u8) -> Port
     requires { (code ≡ 1) ⊎ (code ≡ 4) }
     ensures { rules.becomes_port result ≡ rules.control p code }

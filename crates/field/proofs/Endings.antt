@@ -1,28 +1,24 @@
 -- The ending keys. Assumes nothing.
-use Prim.Native.Nat.{ℕ}
 use mathlib.Core.Path.{◌≡◌, refl}
 use mathlib.Core.Logic.{◌⊎◌, inl, inr}
-use native.Mathlib.Omega.{arith}
+use mathlib.Core.Bool.{true, false}
+use Rattle.std.specs.Prelude.{Option, Some, None}
+use Rattle.std.specs.Option.{is_some}
 use Rattle.field.specs.declared.Ending.{Ending}
-use Rattle.field.specs.declared.Ending.TheVariants.{None, Return, Escape}
-use Rattle.field.specs.Endings.{ending_of}
 
-pub is_return : (key : ℕ) → key ≡ 0x0d → Return ≡ ending_of key
-unfolding ending_of
-is_return key e = rw e
-
-pub is_escape : (key : ℕ) → key ≡ 0x1b → Escape ≡ ending_of key
-unfolding ending_of
-is_escape key e = rw e
-
-return_is_one : Return ≡ None → ⊥
-return_is_one e = let z : ◌≡◌ {A = ℕ} 0 1 = cc in omega arith
-
-escape_is_one : Escape ≡ None → ⊥
-escape_is_one e = let z : ◌≡◌ {A = ℕ} 0 1 = cc in omega arith
+some_is_one : {ending : Ending} → Some ending ≡ None → ⊥
+some_is_one e = cc
 
 -- an ending, or none
-pub ended? : (ending : Ending) → (ending ≡ None) ⊎ (ending ≡ None → ⊥)
+pub ended? : (ending : Option Ending) → (ending ≡ None) ⊎ (ending ≡ None → ⊥)
 ended? None = inl refl
-ended? Return = inr return_is_one
-ended? Escape = inr escape_is_one
+ended? (Some ending) = inr some_is_one
+
+-- what a test of one tells
+pub ended : {ending : Option Ending} → is_some ending ≡ true → ending ≡ None → ⊥
+ended {ending = None} is = cc
+ended {ending = Some ending} is = some_is_one
+
+pub not_ended : {ending : Option Ending} → is_some ending ≡ false → ending ≡ None
+not_ended {ending = None} is = refl
+not_ended {ending = Some ending} is = cc

@@ -8,14 +8,13 @@ use native.Mathlib.Omega.{arith}
 use lib.ListN.{length, get_or, drop, drop_of_length-le}
 use lib.Seq.{drop-cons}
 use Rattle.editing.specs.declared.State.{State}
-use Rattle.editing.specs.declared.Pressed.{Pressed}
 use Rattle.editing.specs.Keys.{Content, Settings, Effect, press}
-use Rattle.editing.specs.Buffer.{laid, settings, content_of, state_of, Ready, Presses}
+use Rattle.editing.specs.Buffer.{laid, settings, content_of, state_of, Ready, Presses, state_after, beeps_of}
 use Rattle.editing.proofs.Texts.{state_content, content_laid}
 use Rattle.editing.proofs.Keeps.{beeps_once, length_pressed, ready_press}
 use Rattle.field.specs.declared.Status.TheVariants.{Done}
 use Rattle.field.specs.declared.Ending.{Ending}
-use Rattle.field.specs.declared.Ending.TheVariants.{None, Return, Escape}
+use Rattle.std.specs.Prelude.{Option, Some, None}
 use Rattle.field.specs.declared.KeysAnswer.{KeysAnswer}
 use Rattle.field.specs.Endings.{ending_of}
 use Rattle.field.specs.Typing.{Typed, after, type_keys}
@@ -34,94 +33,94 @@ module _ (f : Settings) (c : Content) (b : List ℕ) (key : ℕ) (keys : List �
   unfolding type_keys
   goes_on e = rw e
 
-  pub ends : (ending : Ending) → ending_of key ≡ ending → (ending ≡ None → ⊥) → type_keys f c b (key ∷ keys) ≡ record { content = c; buffer = b; read = 1; beeps = 0; ending = ending }
+  pub ends : (ending : Option Ending) → ending_of key ≡ ending → (ending ≡ None → ⊥) → type_keys f c b (key ∷ keys) ≡ record { content = c; buffer = b; read = 1; beeps = 0; ending = ending }
   unfolding type_keys
   ends None e some = absurd (some refl)
-  ends Return e some = rw e
-  ends Escape e some = rw e
+  ends (Some ending) e some = rw e
 
 nothing_after : (f : Settings) (c : Content) (b : List ℕ) (read beeps : ℕ) → after read beeps (type_keys f c b []) ≡ record { content = c; buffer = b; read = read; beeps = beeps; ending = None }
 unfolding type_keys
 nothing_after f c b read beeps = let n : read + 0 ≡ read = omega arith in let m : beeps + 0 ≡ beeps = omega arith in rw (n, m)
 
-pub pressed_few : (f : Settings) (c : Content) (key : ℕ) {p : Pressed} {b b' : List ℕ} → Presses (press f c key) b p b' → p.beeps ≤ 1
-pressed_few f c key h = let k = beeps_once f c key in omega (arith, ap (λ (x : Pressed). x.beeps) h.answer_is)
-
--- ---- the loop: after so many keys read and so many beeps the state, which was at, is current, and the buffer b
-module _ (width maximum : ℕ) (default b₀ : List ℕ) (at : State) (keys : List ℕ) where
+-- ---- the loop: so many keys have been read, the answer is that of keys which are not at their end yet, and the buffer is b
+module _ (width maximum : ℕ) (default b₀ : List ℕ) (at : State) (keys : List ℕ) (fits : length default ≤ maximum) where
   abbrev f : Settings
   f = settings width maximum default
 
   abbrev all : Typed
   all = type_keys f (content_of at b₀) b₀ keys
 
-  pub record Reading (b : List ℕ) (current : State) (beeps read : ℕ) : Type 0 where
+  pub record Reading (b : List ℕ) (answer : KeysAnswer) (read : ℕ) : Type 0 where
     pub within : read ≤ length keys
-    pub few : beeps ≤ read
+    pub done : answer.status ≡ Done
+    pub read_is : answer.read ≡ read
+    pub open_is : answer.ending ≡ None
+    pub few : answer.beeps ≤ read
     pub len : length b ≡ length b₀
-    pub ready : Ready width maximum (length default) (length b) current
-    pub rest : all ≡ after read beeps (type_keys f (content_of current b) b (drop read keys))
+    pub ready : Ready width maximum (length b) answer.state
+    pub rest : all ≡ after read answer.beeps (type_keys f (content_of answer.state b) b (drop read keys))
 
-  pub reading_starts : Ready width maximum (length default) (length b₀) at → Reading b₀ at 0 0
-  reading_starts ready = record { within = omega arith; few = omega arith; len = refl; ready = ready; rest = sym (after_nothing all) }
+  pub reading_starts : (answer : KeysAnswer) → answer ≡ answer_of Done at 0 0 None → Ready width maximum (length b₀) at → Reading b₀ answer 0
+  reading_starts answer is ready =
+      subst (λ (a : KeysAnswer). Reading b₀ a 0) (sym is)
+      (record { within = omega arith; done = refl; read_is = refl; open_is = refl; few = omega arith; len = refl; ready = ready; rest = sym (after_nothing all) })
 
   -- where the reading stops, the answer is what all keys leave
-  stopped : (b : List ℕ) (current : State) (beeps read : ℕ) (a : KeysAnswer) (ending : Ending) → Ready width maximum (length default) (length b) current
+  stopped : (b : List ℕ) (current : State) (beeps read : ℕ) (ending : Option Ending) → Ready width maximum (length b) current
       → all ≡ record { content = content_of current b; buffer = b; read = read; beeps = beeps; ending = ending }
-      → a ≡ answer_of Done current read beeps ending
-      → Replies (keys_typed all) a b
-  stopped b current beeps read a ending ready is made =
-      subst (λ (x : Typed). Replies (keys_typed x) a b) (sym is)
-      (record { answer_is = made ∙ rw (state_content current b (omega (arith, ready.within, ready.room))); bytes = refl })
+      → Replies (keys_typed all) (answer_of Done current read beeps ending) b
+  stopped b current beeps read ending ready is =
+      subst (λ (x : Typed). Replies (keys_typed x) (answer_of Done current read beeps ending) b) (sym is)
+      (record { answer_is = rw (state_content current b (omega (arith, ready.within, ready.room))); bytes = refl })
 
-  module _ (b : List ℕ) (current : State) (beeps read : ℕ) (r : Reading b current beeps read) (more : read < length keys) where
+  module _ (b : List ℕ) (answer : KeysAnswer) (read : ℕ) (r : Reading b answer read) (more : read < length keys) where
     abbrev key : ℕ
     key = get_or keys read 0
 
     next_key : drop read keys ≡ key ∷ drop (read + 1) keys
     next_key = drop-cons keys read 0 more ∙ ap (λ (n : ℕ). key ∷ drop n keys) (sym (add-one read))
 
-    pub reading_again : (p : Pressed) (b' : List ℕ) (ending : Ending) → ending ≡ ending_of key → ending ≡ None → Presses (press f (content_of current b) key) b p b' → Reading b' p.state (beeps + p.beeps) (read + 1)
-    reading_again p b' ending is none pressed = record {
+    pub reading_again : (p : Option State) (b' : List ℕ) (next : KeysAnswer) → ending_of key ≡ None → Presses (press f (content_of answer.state b) key) answer.state b p b'
+        → next ≡ answer_of answer.status (state_after answer.state p) (answer.read + 1) (answer.beeps + beeps_of p) None
+        → Reading b' next (read + 1)
+    reading_again p b' next none pressed is = subst (λ (a : KeysAnswer). Reading b' a (read + 1)) (sym is) (record {
       within = omega arith;
-      few = let one = beeps_once f (content_of current b) key in omega (arith, r.few, beeps_are);
-      len = ap length pressed.bytes ∙ length_pressed width maximum default b (content_of current b) key found ∙ r.len;
-      ready = rw (state_is, pressed.bytes) (ready_press width maximum default b (content_of current b) key found);
+      done = r.done;
+      read_is = ap (λ (n : ℕ). n + 1) r.read_is;
+      open_is = refl;
+      few = let one = beeps_once f (content_of answer.state b) key in omega (arith, r.few, pressed.beeps_are);
+      len = ap length pressed.bytes ∙ length_pressed width maximum default b (content_of answer.state b) key fits found ∙ r.len;
+      ready = rw (pressed.state_is, pressed.bytes) (ready_press width maximum default b (content_of answer.state b) key fits found);
       rest = r.rest
-          ∙ ap (λ (ks : List ℕ). after read beeps (type_keys f (content_of current b) b ks)) next_key
-          ∙ ap (after read beeps) (goes_on f (content_of current b) b key (drop (read + 1) keys) (sym is ∙ none))
-          ∙ after_after read beeps 1 e.beeps (type_keys f e.content (laid e.content.text b) (drop (read + 1) keys))
-          ∙ rw (← beeps_are, content_is, pressed.bytes);
-    }
+          ∙ ap (λ (ks : List ℕ). after read answer.beeps (type_keys f (content_of answer.state b) b ks)) next_key
+          ∙ ap (after read answer.beeps) (goes_on f (content_of answer.state b) b key (drop (read + 1) keys) none)
+          ∙ after_after read answer.beeps 1 e.beeps (type_keys f e.content (laid e.content.text b) (drop (read + 1) keys))
+          ∙ rw (← pressed.beeps_are, content_is, pressed.bytes);
+    })
       where
         e : Effect
-        e = press f (content_of current b) key
+        e = press f (content_of answer.state b) key
 
-        found : Ready width maximum (length default) (length b) (state_of (content_of current b))
-        found = rw (state_content current b (omega (arith, r.ready.within, r.ready.room))) r.ready
+        found : Ready width maximum (length b) (state_of (content_of answer.state b))
+        found = rw (state_content answer.state b (omega (arith, r.ready.within, r.ready.room))) r.ready
 
-        state_is : p.state ≡ state_of e.content
-        state_is = ap (λ (x : Pressed). x.state) pressed.answer_is
+        content_is : content_of (state_after answer.state p) b' ≡ e.content
+        content_is = rw (pressed.state_is, pressed.bytes) (content_laid e.content b)
 
-        beeps_are : p.beeps ≡ e.beeps
-        beeps_are = ap (λ (x : Pressed). x.beeps) pressed.answer_is
-
-        content_is : content_of p.state b' ≡ e.content
-        content_is = rw (state_is, pressed.bytes) (content_laid e.content b)
-
-    pub reading_ends : (a : KeysAnswer) (ending : Ending) → ending ≡ ending_of key → (ending ≡ None → ⊥) → a ≡ answer_of Done current (read + 1) beeps ending → Replies (keys_typed all) a b
-    reading_ends a ending is some made =
-        let end : all ≡ record { content = content_of current b; buffer = b; read = read + 1; beeps = beeps; ending = ending } =
+    pub reading_ends : (ending : Option Ending) → ending ≡ ending_of key → (ending ≡ None → ⊥) → Replies (keys_typed all) (answer_of answer.status answer.state (answer.read + 1) answer.beeps ending) b
+    reading_ends ending is some =
+        let end : all ≡ record { content = content_of answer.state b; buffer = b; read = read + 1; beeps = answer.beeps; ending = ending } =
         r.rest
-        ∙ ap (λ (ks : List ℕ). after read beeps (type_keys f (content_of current b) b ks)) next_key
-        ∙ ap (after read beeps) (ends f (content_of current b) b key (drop (read + 1) keys) ending (sym is) some)
-        ∙ (let n : beeps + 0 ≡ beeps = omega arith in rw n) in
-        stopped b current beeps (read + 1) a ending r.ready end made
+        ∙ ap (λ (ks : List ℕ). after read answer.beeps (type_keys f (content_of answer.state b) b ks)) next_key
+        ∙ ap (after read answer.beeps) (ends f (content_of answer.state b) b key (drop (read + 1) keys) ending (sym is) some)
+        ∙ (let n : answer.beeps + 0 ≡ answer.beeps = omega arith in rw n) in
+        rw (r.done, r.read_is) (stopped b answer.state answer.beeps (read + 1) ending r.ready end)
 
-  pub reading_done : (b : List ℕ) (current : State) (beeps read : ℕ) (a : KeysAnswer) → Reading b current beeps read → length keys ≤ read → a ≡ answer_of Done current read beeps None → Replies (keys_typed all) a b
-  reading_done b current beeps read a r none made =
-      let end : all ≡ record { content = content_of current b; buffer = b; read = read; beeps = beeps; ending = None } =
+  pub reading_done : (b : List ℕ) (answer : KeysAnswer) (read : ℕ) → Reading b answer read → length keys ≤ read → Replies (keys_typed all) answer b
+  reading_done b answer read r none =
+      let end : all ≡ record { content = content_of answer.state b; buffer = b; read = read; beeps = answer.beeps; ending = None } =
       r.rest
-      ∙ ap (λ (ks : List ℕ). after read beeps (type_keys f (content_of current b) b ks)) (drop_of_length-le keys none)
-      ∙ nothing_after f (content_of current b) b read beeps in
-      stopped b current beeps read a None r.ready end made
+      ∙ ap (λ (ks : List ℕ). after read answer.beeps (type_keys f (content_of answer.state b) b ks)) (drop_of_length-le keys none)
+      ∙ nothing_after f (content_of answer.state b) b read answer.beeps in
+      let is : answer ≡ answer_of Done answer.state read answer.beeps None = rw (← r.done, ← r.read_is, ← r.open_is) in
+      rw is (stopped b answer.state answer.beeps read None r.ready end)

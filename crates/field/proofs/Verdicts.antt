@@ -1,19 +1,24 @@
 -- When a call is refused before it starts, and when it is made. Assumes nothing.
 use Prim.Native.Nat.{ℕ, ◌≤◌, ◌<◌}
 use native.Mathlib.Omega.{arith}
-use mathlib.Core.Path.{◌≡◌, refl, sym, ◌∙◌}
+use mathlib.Core.Path.{◌≡◌, refl, sym, ap, ◌∙◌}
 use mathlib.Core.Bool.{Bool, true, false, cond, ◌||◌}
 use mathlib.Core.Logic.{◌⊎◌, inl, inr}
-use borrow.Author.Tests.{ltb-false}
+use borrow.Author.Tests.{ltb-false, lt-ltb, le-ltb}
 use lib.Dec.{ltb}
-use Rattle.laws.proofs.Tests.{Decides, decides_lt, decides_either, not_both, or_left, or_right}
+use lib.ListN.{length}
+use mathlib.Core.List.{List}
+use Rattle.std.proofs.lemmas.Bool.{or_parts, both_ways}
+use Rattle.laws.proofs.Tests.{Decides, decides_lt, decides_either}
 use Rattle.editing.specs.declared.State.{State}
-use Rattle.editing.specs.Buffer.{Within, Ready}
+use Rattle.editing.specs.Buffer.{Within, Ready, settings, settings_of}
 use Rattle.field.specs.declared.Status.{Status}
 use Rattle.field.specs.declared.Status.TheVariants.{SizeOutOfRange, BufferTooShort, DefaultTooLong, StateOutOfRange}
-use Rattle.field.specs.declared.verdict.Verdict.{Verdict}
-use Rattle.field.specs.declared.verdict.Verdict.TheVariants.{Accepted, Refused}
-use Rattle.field.specs.Verdict.{out_of_range, start_verdict, state_verdict, first_of, keys_verdict, on_verdict}
+use Rattle.std.proofs.Math.Bool.{or-true}
+use Rattle.std.specs.Prelude.{Result, Ok, Err}
+use Rattle.editing.specs.declared.field.Field.{Field}
+use Rattle.editing.specs.Keys.{Settings}
+use Rattle.field.specs.Verdict.{Verdict, verdict_of, out_of_range, start_verdict, state_verdict, first_of, keys_verdict, on_verdict}
 use Rattle.field.specs.Rules.{OutOfRange, Sized, PastLimits}
 
 -- ---- the tests of the rules
@@ -27,41 +32,28 @@ decides_sizes width maximum = decides_either (decides_range width) (decides_rang
 pub decides_limits : (width maximum : ℕ) (state : State) → Decides (ltb maximum state.length || (ltb state.length state.cursor || ltb width state.cursor)) (PastLimits width maximum state)
 decides_limits width maximum state = decides_either (decides_lt _ _) (decides_either (decides_lt _ _) (decides_lt _ _))
 
--- both tests, by what a function answered to each
-pub same_or : (a b t u v : Bool) → a ≡ t → b ≡ u → (a || b) ≡ v → (t || u) ≡ v
-same_or a b t u v p q e = rw (p, q) at e
-
 -- ---- what an acceptance shows
-unrefused : (t : Bool) (status : Status) (next : Verdict) → cond t (Refused status) next ≡ Accepted → (t ≡ false) × (next ≡ Accepted)
-unrefused true status next e = absurd (let z : ◌≡◌ {A = ℕ} 0 1 = cc in omega arith)
+unrefused : (t : Bool) (status : Status) (next : Verdict) → cond t (Err status) next ≡ Ok tt → (t ≡ false) × (next ≡ Ok tt)
+unrefused true status next e = cc
 unrefused false status next e = (refl, e)
 
--- the first of two, by each way through it
-pub first_refused : (a b v : Verdict) (status : Status) → v ≡ a → v ≡ Refused status → Refused status ≡ first_of a b
+both_accepted : (a b : Verdict) → first_of a b ≡ Ok tt → (a ≡ Ok tt) × (b ≡ Ok tt)
 unfolding first_of
-first_refused a b v status is e = rw (sym is ∙ e)
+both_accepted (Err status) b e = cc
+both_accepted (Ok done) b e = (refl, e)
 
-pub first_accepted : (a b v w : Verdict) → v ≡ a → v ≡ Accepted → w ≡ b → w ≡ first_of a b
-unfolding first_of
-first_accepted a b v w is e next = rw (sym is ∙ e) next
-
-both_accepted : (a b : Verdict) → first_of a b ≡ Accepted → (a ≡ Accepted) × (b ≡ Accepted)
-unfolding first_of
-both_accepted (Refused status) b e = absurd (let z : ◌≡◌ {A = ℕ} 0 1 = cc in omega arith)
-both_accepted Accepted b e = (refl, e)
-
-within_range : (size : ℕ) → out_of_range size ≡ false → (1 ≤ size) × (size ≤ 254)
-within_range size e = let no_low : size < 1 → ⊥ = λ h. not_both ((decides_range size).passes (inl h)) e in let no_high : 254 < size → ⊥ = λ h. not_both ((decides_range size).passes (inr h)) e in (omega arith, omega arith)
+pub within_range : (size : ℕ) → out_of_range size ≡ false → (1 ≤ size) × (size ≤ 254)
+within_range size e = let no_low : size < 1 → ⊥ = λ h. both_ways _ e ((decides_range size).passes (inl h)) in let no_high : 254 < size → ⊥ = λ h. both_ways _ e ((decides_range size).passes (inr h)) in (omega arith, omega arith)
 
 module _ (width maximum default buffer : ℕ) where
-  sized_by : start_verdict width maximum default buffer ≡ Accepted → Sized width maximum default buffer
+  pub start_accepted : start_verdict width maximum default buffer ≡ Ok tt → Sized width maximum default buffer
   unfolding start_verdict
-  sized_by e =
+  start_accepted e =
       let one = unrefused (out_of_range width || out_of_range maximum) SizeOutOfRange _ e in
       let two = unrefused (ltb buffer maximum) BufferTooShort _ one.1 in
       let three = unrefused (ltb maximum default) DefaultTooLong _ two.1 in
-      let w = within_range width (or_left _ _ one.0) in
-      let m = within_range maximum (or_right (out_of_range width) _ one.0) in
+      let w = within_range width ((or_parts _ _ one.0).0) in
+      let m = within_range maximum ((or_parts (out_of_range width) _ one.0).1) in
       record {
         width_low = w.0;
         width_high = w.1;
@@ -71,38 +63,88 @@ module _ (width maximum default buffer : ℕ) where
         default_fits = ltb-false maximum default three.0;
       }
 
-  within_by : (state : State) → state_verdict width maximum state ≡ Accepted → Within width maximum state
+  within_by : (state : State) → state_verdict width maximum state ≡ Ok tt → Within width maximum state
   unfolding state_verdict
   within_by state e =
-      let none = (unrefused _ StateOutOfRange Accepted e).0 in
-      let cursor = or_right (ltb maximum state.length) _ none in
+      let none = (unrefused _ StateOutOfRange (Ok tt) e).0 in
+      let cursor = (or_parts (ltb maximum state.length) _ none).1 in
       record {
-        length_within = ltb-false _ _ (or_left _ _ none);
-        cursor_in_text = ltb-false _ _ (or_left _ _ cursor);
-        cursor_in_field = ltb-false _ _ (or_right (ltb state.length state.cursor) _ cursor);
+        length_within = ltb-false _ _ ((or_parts _ _ none).0);
+        cursor_in_text = ltb-false _ _ ((or_parts _ _ cursor).0);
+        cursor_in_field = ltb-false _ _ ((or_parts (ltb state.length state.cursor) _ cursor).1);
       }
 
-  -- by what a function answered
-  pub start_accepted : (v : Verdict) → v ≡ start_verdict width maximum default buffer → v ≡ Accepted → Sized width maximum default buffer
-  start_accepted v is e = sized_by (sym is ∙ e)
-
-  pub keys_sized : (v : Verdict) (state : State) → v ≡ keys_verdict width maximum default buffer state → v ≡ Accepted → Sized width maximum default buffer
+  pub keys_sized : (state : State) → keys_verdict width maximum default buffer state ≡ Ok tt → Sized width maximum default buffer
   unfolding keys_verdict
-  keys_sized v state is e = sized_by (both_accepted (start_verdict width maximum default buffer) (state_verdict width maximum state) (sym is ∙ e)).0
+  keys_sized state e = start_accepted (both_accepted (start_verdict width maximum default buffer) (state_verdict width maximum state) e).0
 
-  pub keys_accepted : (v : Verdict) (state : State) → v ≡ keys_verdict width maximum default buffer state → v ≡ Accepted → Ready width maximum default buffer state
+  pub keys_accepted : (state : State) → keys_verdict width maximum default buffer state ≡ Ok tt → Ready width maximum buffer state
   unfolding keys_verdict
-  keys_accepted v state is e =
-      let both = both_accepted (start_verdict width maximum default buffer) (state_verdict width maximum state) (sym is ∙ e) in
-      let sizes = sized_by both.0 in
-      record { within = within_by state both.1; small = sizes.maximum_high; room = sizes.room; default_fits = sizes.default_fits }
+  keys_accepted state e =
+      let both = both_accepted (start_verdict width maximum default buffer) (state_verdict width maximum state) e in
+      record { within = within_by state both.1; room = (start_accepted both.0).room }
 
-  -- so the default lies in the buffer
-  pub default_in_buffer : (v : Verdict) → v ≡ start_verdict width maximum default buffer → v ≡ Accepted → default ≤ buffer
-  default_in_buffer v is e = let sizes = start_accepted v is e in omega (arith, sizes.default_fits, sizes.room)
+-- ---- each way through a judgement
+module _ (width maximum default buffer : ℕ) where
+  pub width_refused : {t : Bool} → t ≡ out_of_range width → t ≡ true → Err SizeOutOfRange ≡ start_verdict width maximum default buffer
+  unfolding start_verdict
+  width_refused is e = rw (sym is ∙ e)
+
+  pub maximum_refused : {t : Bool} → t ≡ out_of_range maximum → t ≡ true → Err SizeOutOfRange ≡ start_verdict width maximum default buffer
+  unfolding start_verdict
+  maximum_refused is e = rw (sym is ∙ e, or-true)
+
+  module _ {t u : Bool} (wide : t ≡ out_of_range width) (narrow : t ≡ false) (long : u ≡ out_of_range maximum) (short : u ≡ false) where
+    pub buffer_refused : buffer < maximum → Err BufferTooShort ≡ start_verdict width maximum default buffer
+    unfolding start_verdict
+    buffer_refused h = rw (sym wide ∙ narrow, sym long ∙ short, lt-ltb buffer maximum h)
+
+    pub default_refused : maximum ≤ buffer → maximum < default → Err DefaultTooLong ≡ start_verdict width maximum default buffer
+    unfolding start_verdict
+    default_refused room h = rw (sym wide ∙ narrow, sym long ∙ short, le-ltb buffer maximum room, lt-ltb maximum default h)
+
+    pub sizes_accepted : maximum ≤ buffer → default ≤ maximum → Ok tt ≡ start_verdict width maximum default buffer
+    unfolding start_verdict
+    sizes_accepted room fits = rw (sym wide ∙ narrow, sym long ∙ short, le-ltb buffer maximum room, le-ltb maximum default fits)
+
+module _ (width maximum buffer : ℕ) (state : State) where
+  pub past_limits : PastLimits width maximum state → Err StateOutOfRange ≡ state_verdict width maximum state
+  unfolding state_verdict
+  past_limits past = rw ((decides_limits width maximum state).passes past)
+
+  pub within_limits : state.length ≤ maximum → state.cursor ≤ state.length → state.cursor ≤ width → Ok tt ≡ state_verdict width maximum state
+  unfolding state_verdict
+  within_limits long inside left = rw (le-ltb _ _ long, le-ltb _ _ inside, le-ltb _ _ left)
+
+  module _ (default : List ℕ) where
+    pub refused_first : {status : Status} → Err status ≡ start_verdict width maximum (length default) buffer → Err status ≡ keys_verdict width maximum (length default) buffer state
+    unfolding keys_verdict first_of
+    refused_first e = rw (← e)
+
+    pub judged_by_state : {v : Verdict} (field : Field) → Ok tt ≡ start_verdict width maximum (length default) buffer → settings_of field ≡ settings width maximum default
+        → v ≡ state_verdict field.width field.maximum state
+        → v ≡ keys_verdict width maximum (length default) buffer state
+    unfolding keys_verdict first_of
+    judged_by_state field accepted same is =
+        rw (← accepted) (is ∙ rw (ap (λ (s : Settings). s.width) same, ap (λ (s : Settings). s.maximum) same))
+
+-- ---- the field that a function answered with
+module _ {width maximum buffer : ℕ} {default : List ℕ} {v : Result Field Status} (field : Field) (e : v ≡ Ok field) (same : settings_of field ≡ settings width maximum default) where
+  -- the default lies in the buffer
+  pub default_in_buffer : verdict_of v ≡ start_verdict width maximum (length default) buffer → length field.default.now ≤ buffer
+  default_in_buffer is =
+      let sizes = start_accepted width maximum (length default) buffer (sym is ∙ ap verdict_of e) in
+      let lent : length field.default.now ≡ length default = ap (λ (s : Settings). length s.default) same in
+      omega (arith, sizes.default_fits, sizes.room)
+
+  pub ready_field : (state : State) → verdict_of v ≡ keys_verdict width maximum (length default) buffer state → Ready field.width field.maximum buffer state
+  ready_field state is =
+      let wide : field.width ≡ width = ap (λ (s : Settings). s.width) same in
+      let long : field.maximum ≡ maximum = ap (λ (s : Settings). s.maximum) same in
+      rw (wide, long) (keys_accepted width maximum (length default) buffer state (sym is ∙ ap verdict_of e))
 
 -- ---- a property of what a refused call gives, and of what one that is made does, is one of the call
-pub by_verdict : {A : Type 0} (P : A → Type 0) (refused : Status → A) (made : A) (v : Verdict) → ((status : Status) → v ≡ Refused status → P (refused status)) → (v ≡ Accepted → P made) → P (on_verdict v refused made)
+pub by_verdict : {A : Type 0} (P : A → Type 0) (refused : Status → A) (made : A) (v : Verdict) → ((status : Status) → v ≡ Err status → P (refused status)) → (v ≡ Ok tt → P made) → P (on_verdict v refused made)
 unfolding on_verdict
-by_verdict P refused made (Refused status) refuses makes = refuses status refl
-by_verdict P refused made Accepted refuses makes = makes refl
+by_verdict P refused made (Err status) refuses makes = refuses status refl
+by_verdict P refused made (Ok done) refuses makes = makes refl

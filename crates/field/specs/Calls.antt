@@ -1,5 +1,5 @@
 -- Paper 02, request 01: the calls, with their refusals: all that each leaves. Assumes nothing.
-use Rattle.std.specs.Prelude.{ℕ, ◌≡◌, List, length}
+use Rattle.std.specs.Prelude.{ℕ, ◌≡◌, List, length, Option, Some, None}
 use Rattle.std.specs.Borrow.{Bor}
 use Rattle.laws.specs.Parts.{Stretch, stretch, no_stretch, bytes_of, IsPart}
 use Rattle.editing.specs.declared.State.{State}
@@ -8,7 +8,7 @@ use Rattle.editing.specs.Buffer.{laid, settings, content_of, state_of}
 use Rattle.field.specs.declared.Status.{Status}
 use Rattle.field.specs.declared.Status.TheVariants.{Done}
 use Rattle.field.specs.declared.Ending.{Ending}
-use Rattle.field.specs.declared.Ending.TheVariants.{None, Return, Escape}
+use Rattle.field.specs.declared.Ending.TheVariants.{Return, Escape}
 use Rattle.field.specs.declared.StartAnswer.{StartAnswer}
 use Rattle.field.specs.declared.KeysAnswer.{KeysAnswer}
 use Rattle.field.specs.Verdict.{start_verdict, keys_verdict, on_verdict}
@@ -36,7 +36,7 @@ start_call width maximum default buffer =
     on_verdict (start_verdict width maximum (length default) (length buffer)) (λ status. start_refused status buffer) (started width default buffer)
 
 -- ---- keys. A refusal hands back 'counts of 0, no ending' too
-abbrev pub answer_of : Status → State → ℕ → ℕ → Ending → KeysAnswer
+abbrev pub answer_of : Status → State → ℕ → ℕ → Option Ending → KeysAnswer
 answer_of status state read beeps ending = record { status = status; state = state; read = read; beeps = beeps; ending = ending }
 
 abbrev pub keys_refused : Status → State → List ℕ → Reply KeysAnswer
@@ -63,13 +63,13 @@ abbrev pub the_default : ℕ → Part
 the_default default = of_default (stretch 0 default)
 
 -- 'Return hands back the typed part of the buffer; Escape .. the lent default itself; none, an empty one'
-abbrev pub text_by : ℕ → State → Ending → Part
-text_by default state Return = of_buffer (stretch 0 state.length)
-text_by default state Escape = the_default default
+abbrev pub text_by : ℕ → State → Option Ending → Part
+text_by default state (Some Return) = of_buffer (stretch 0 state.length)
+text_by default state (Some Escape) = the_default default
 text_by default state None = no_text
 
 -- .. and a refusal an empty stretch, by the lengths of the lent default and buffer
-unfoldable pub text_call : ℕ → ℕ → ℕ → ℕ → State → Ending → Part
+unfoldable pub text_call : ℕ → ℕ → ℕ → ℕ → State → Option Ending → Part
 text_call width maximum default buffer state ending = on_verdict (keys_verdict width maximum default buffer state) (λ status. no_text) (text_by default state ending)
 
 -- r is that stretch of the lent slice itself

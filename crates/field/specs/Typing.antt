@@ -1,9 +1,8 @@
 -- Paper 02, request 01: 'keys come in a lent stream that may be cut'. Each key in its order, with the text, the cursor and the buffer that the one before left. Assumes nothing.
-use Rattle.std.specs.Prelude.{ℕ, ◌+◌, List, [], ◌∷◌}
+use Rattle.std.specs.Prelude.{ℕ, ◌+◌, List, [], ◌∷◌, Option, Some, None}
 use Rattle.editing.specs.Keys.{Content, Settings, Effect, press}
 use Rattle.editing.specs.Buffer.{laid}
 use Rattle.field.specs.declared.Ending.{Ending}
-use Rattle.field.specs.declared.Ending.TheVariants.{None, Return, Escape}
 use Rattle.field.specs.Endings.{ending_of}
 
 -- what keys leave: 'with counts of keys read and of beeps', and the ending
@@ -12,17 +11,16 @@ pub record Typed : Type 0 where
   pub buffer : List ℕ
   pub read : ℕ
   pub beeps : ℕ
-  pub ending : Ending
+  pub ending : Option Ending
 
 -- the same after so many keys read before, and so many beeps
 abbrev pub after : ℕ → ℕ → Typed → Typed
 after read beeps x = record { content = x.content; buffer = x.buffer; read = read + x.read; beeps = beeps + x.beeps; ending = x.ending }
 
 -- what an ending key leaves, or what a key that is none and those after it leave
-abbrev pub unless_ending : Ending → Typed → Typed → Typed
+abbrev pub unless_ending : Option Ending → Typed → Typed → Typed
 unless_ending None ended goes_on = goes_on
-unless_ending Return ended goes_on = ended
-unless_ending Escape ended goes_on = ended
+unless_ending (Some ending) ended goes_on = ended
 
 -- 'keys after an ending key, which counts as read, are not read'. 'After .. each key, buffer bytes from the text's new end on are as before it': `laid`
 unfoldable pub type_keys : Settings → Content → List ℕ → List ℕ → Typed

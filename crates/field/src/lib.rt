@@ -4,194 +4,158 @@
 
 mod verdict;
 
-ghost use Rattle.std.specs.Prelude.{◌≤◌, ◌≡◌, length};
-ghost use Rattle.laws.specs.Parts.{stretch, IsPart};
-ghost use Rattle.editing.specs.Buffer.{Ready, settings, content_of};
+ghost use Rattle.std.specs.Prelude.{◌≡◌, length};
+ghost use Rattle.editing.specs.Buffer.{Ready, settings_of, content_of};
 ghost use Rattle.field.specs.Statuses.{status_number};
 ghost use Rattle.field.specs.Endings.{ending_of, ending_key};
 ghost use Rattle.field.specs.Typing as rules;
 ghost use Rattle.field.specs.Calls.{Replies, answer_of, start_call, keys_typed, keys_call, text_call, IsText};
 
 use editing::buffer::lay_default;
-use editing::{State, press};
-use verdict::{Verdict, keys_verdict, start_verdict};
+use editing::{Field, State, press};
+use verdict::{keys_verdict, start_verdict};
 
-// The request's refusals in their order.
+// What a host says of its field, the same at each call: how wide it is, how long its text may be, and the text that it starts as. Of any values: each call judges them. The buffer goes beside it: a start and keys change it, and `text` hands out a part of it.
 #[derive(Clone, Copy)]
+pub struct Settings<'a> {
+    pub width: usize,
+    pub maximum: usize,
+    pub default: &'a [u8],
+}
+
+// The request's refusals in their order, with their numbers. Done stands among them: the request numbers all in one row, and `Answers` of the laws reads them so.
+#[derive(Clone, Copy, PartialEq, Eq, Debug)]
 pub enum Status {
-    Done,
-    SizeOutOfRange,
-    BufferTooShort,
-    DefaultTooLong,
-    StateOutOfRange,
+    Done = 0,
+    SizeOutOfRange = 11,
+    BufferTooShort = 12,
+    DefaultTooLong = 13,
+    StateOutOfRange = 19,
 }
 
 // The request's number.
 pub fn status_number(status: Status) -> u8
     ensures { result ≡ status_number status }
 {
-    match status {
-        Status::Done => 0,
-        Status::SizeOutOfRange => 11,
-        Status::BufferTooShort => 12,
-        Status::DefaultTooLong => 13,
-        Status::StateOutOfRange => 19,
-    }
+    status as u8
 }
 
-// The key that ended the field, if one did.
-#[derive(Clone, Copy)]
+// The key that ended the field, as its byte.
+#[derive(Clone, Copy, PartialEq, Eq, Debug)]
 pub enum Ending {
-    None,
-    Return,
-    Escape,
+    Return = 0x0D,
+    Escape = 0x1B,
 }
 
-// The ending that a key is.
-pub fn ending_of(key: u8) -> Ending
+// The ending that a key is, if it is one: a match, and no `TryFrom`, which would ask for an error where None says it.
+pub fn ending_of(key: u8) -> Option<Ending>
     ensures { result ≡ ending_of key }
 {
     match key {
-        0x0D => Ending::Return,
-        0x1B => Ending::Escape,
-        _ => Ending::None,
+        0x0D => Some(Ending::Return),
+        0x1B => Some(Ending::Escape),
+        _ => None,
     }
 }
 
 // Its key, and 0 for none.
-pub fn ending_key(ending: Ending) -> u8
+pub fn ending_key(ending: Option<Ending>) -> u8
     ensures { result ≡ ending_key ending }
 {
-    match ending {
-        Ending::None => 0,
-        Ending::Return => 0x0D,
-        Ending::Escape => 0x1B,
-    }
+    ending.map_or(0, |ended| ended as u8)
 }
 
-// What a start hands back.
-#[derive(Clone, Copy)]
+// What a start hands back. A status and a state, and no Result: request 01 has a refused start hand back 0, 0 too (`start_refused`).
+#[derive(Clone, Copy, PartialEq, Eq, Debug)]
 pub struct StartAnswer {
     pub status: Status,
     pub state: State,
 }
 
-// What a call with keys hands back: the state, how many keys were read and how many of them beeped, and the ending.
-#[derive(Clone, Copy)]
+// What a call with keys hands back: the state, how many keys were read and how many of them beeped, and the ending. No Result, as a start: a refused call hands back the state as it came (`keys_refused`).
+#[derive(Clone, Copy, PartialEq, Eq, Debug)]
 pub struct KeysAnswer {
     pub status: Status,
     pub state: State,
     pub read: usize,
     pub beeps: usize,
-    pub ending: Ending,
+    pub ending: Option<Ending>,
 }
 
 // The text becomes the default.
-pub fn start(width: usize, maximum: usize, default: &[u8], buffer: &mut [u8]) -> StartAnswer
-    ensures { Replies (start_call width maximum default.now buffer.old) result buffer.new }
+pub fn start(settings: &Settings, buffer: &mut [u8]) -> StartAnswer
+    ensures { Replies (start_call settings.now.width settings.now.maximum settings.now.default.now buffer.old) result buffer.new }
 {
-    let verdict = start_verdict(width, maximum, default.len(), buffer.len());
-    match verdict {
-        Verdict::Refused(status) => StartAnswer {
+    match start_verdict(settings, buffer.len()) {
+        Err(status) => StartAnswer {
             status,
-            state: State {
-                length: 0,
-                cursor: 0,
-            },
+            state: State::default(),
         },
-        Verdict::Accepted => StartAnswer {
+        Ok(field) => StartAnswer {
             status: Status::Done,
-            state: lay_default(width, default, buffer),
+            state: lay_default(field.width, field.default, buffer),
         },
     }
 }
 
-fn answer_of(status: Status, state: State, read: usize, beeps: usize, ending: Ending) -> KeysAnswer
-    ensures { result ≡ answer_of status state read beeps ending }
+// What a call hands back before it reads a key, and where it is refused.
+fn nothing_read(status: Status, state: State) -> KeysAnswer
+    ensures { result ≡ answer_of status state 0 0 None }
 {
     KeysAnswer {
         status,
         state,
-        read,
-        beeps,
-        ending,
+        read: 0,
+        beeps: 0,
+        ending: None,
     }
 }
 
 // Keys up to the first ending key, or all of them.
-fn type_keys(
-    width: usize,
-    maximum: usize,
-    default: &[u8],
-    buffer: &mut [u8],
-    state: State,
-    keys: &[u8],
-) -> KeysAnswer
-    requires { Ready width maximum (length default.now) (length buffer.old) state }
-    ensures { Replies (keys_typed (rules.type_keys (settings width maximum default.now) (content_of state buffer.old) buffer.old keys.now)) result buffer.new }
+fn type_keys(field: &Field, buffer: &mut [u8], state: State, keys: &[u8]) -> KeysAnswer
+    requires { Ready field.now.width field.now.maximum (length buffer.old) state }
+    ensures { Replies (keys_typed (rules.type_keys (settings_of field.now) (content_of state buffer.old) buffer.old keys.now)) result buffer.new }
 {
-    let mut current = state;
-    let mut beeps = 0;
-    let mut read = 0;
-    while read < keys.len() {
-        let key = keys[read];
-        read += 1;
-        let ending = ending_of(key);
-        if let Ending::None = ending {
-            let pressed = press(width, maximum, default, buffer, current, key);
-            current = pressed.state;
-            beeps += pressed.beeps;
-        } else {
-            return answer_of(Status::Done, current, read, beeps, ending);
+    let mut answer = nothing_read(Status::Done, state);
+    for &key in keys {
+        answer.read += 1;
+        answer.ending = ending_of(key);
+        if answer.ending.is_some() {
+            return answer;
+        }
+        match press(field, buffer, answer.state, key) {
+            Some(next) => answer.state = next,
+            None => answer.beeps += 1,
         }
     }
-    answer_of(Status::Done, current, read, beeps, Ending::None)
+    answer
 }
 
 // Reads keys, with the state that the last call handed back.
-pub fn keys(
-    width: usize,
-    maximum: usize,
-    default: &[u8],
-    buffer: &mut [u8],
-    state: State,
-    keys: &[u8],
-) -> KeysAnswer
-    ensures { Replies (keys_call width maximum default.now buffer.old state keys.now) result buffer.new }
+pub fn keys(settings: &Settings, buffer: &mut [u8], state: State, keys: &[u8]) -> KeysAnswer
+    ensures { Replies (keys_call settings.now.width settings.now.maximum settings.now.default.now buffer.old state keys.now) result buffer.new }
 {
-    let verdict = keys_verdict(width, maximum, default.len(), buffer.len(), state);
-    match verdict {
-        Verdict::Refused(status) => answer_of(status, state, 0, 0, Ending::None),
-        Verdict::Accepted => type_keys(width, maximum, default, buffer, state, keys),
+    match keys_verdict(settings, buffer.len(), state) {
+        Err(status) => nothing_read(status, state),
+        Ok(field) => type_keys(&field, buffer, state, keys),
     }
-}
-
-// The first bytes of a text, as a part of the lent slice itself.
-fn front(text: &[u8], count: usize) -> &[u8]
-    requires { count ≤ length text.now }
-    ensures { IsPart text.entry result (stretch 0 count) }
-{
-    &text[0..count]
 }
 
 // What the user has chosen, once a key has ended the field: after Return the typed text, after Escape the default. A part of the lent buffer or of the lent default itself.
 pub fn text<'a>(
-    width: usize,
-    maximum: usize,
-    default: &'a [u8],
+    settings: &Settings<'a>,
     buffer: &'a [u8],
     state: State,
-    ending: Ending,
+    ending: Option<Ending>,
 ) -> &'a [u8]
-    ensures { IsText (text_call width maximum (length default.now) (length buffer.now) state ending) default.entry buffer.entry result }
+    ensures { IsText (text_call settings.now.width settings.now.maximum (length settings.now.default.now) (length buffer.now) state ending) settings.now.default buffer.entry result }
 {
-    let verdict = keys_verdict(width, maximum, default.len(), buffer.len(), state);
-    match verdict {
-        Verdict::Refused(_) => front(buffer, 0),
-        Verdict::Accepted => match ending {
-            Ending::None => front(buffer, 0),
-            Ending::Return => front(buffer, state.length),
-            Ending::Escape => default,
-        },
+    if keys_verdict(settings, buffer.len(), state).is_err() {
+        return &buffer[..0];
+    }
+    match ending {
+        None => &buffer[..0],
+        Some(Ending::Return) => &buffer[..state.length],
+        Some(Ending::Escape) => settings.default,
     }
 }

@@ -1,62 +1,64 @@
-// A call is judged before it starts: refused, or accepted.
-ghost use Rattle.std.specs.Prelude.{◌≡◌};
+// A call is judged before it starts: refused, or accepted with the field that its keys obey.
+ghost use Rattle.std.specs.Prelude.{◌≡◌, length, IfOk};
+ghost use Rattle.editing.specs.Buffer as fields;
 ghost use Rattle.field.specs.Verdict as rules;
 
-use super::Status;
-use editing::State;
-
-#[derive(Clone, Copy)]
-pub enum Verdict {
-    Accepted,
-    Refused(Status),
-}
+use super::{Settings, Status};
+use editing::{Field, State};
 
 // A size is from 1 to 254.
 fn out_of_range(size: usize) -> bool
     ensures { result ≡ rules.out_of_range size }
 {
-    (size < 1) | (254 < size)
+    !(1..=254).contains(&size)
 }
 
-// Refusals 11, 12 and 13, by the width, the maximum and the lengths of default and buffer.
-pub fn start_verdict(width: usize, maximum: usize, default: usize, buffer: usize) -> Verdict
-    ensures { result ≡ rules.start_verdict width maximum default buffer }
+// Refusals 11, 12 and 13, by the settings and the length of the buffer.
+pub fn start_verdict<'a>(settings: &Settings<'a>, buffer: usize) -> Result<Field<'a>, Status>
+    ensures verdict { rules.verdict_of result ≡ rules.start_verdict settings.now.width settings.now.maximum (length settings.now.default.now) buffer }
+    ensures field { IfOk result (λ field. fields.settings_of field ≡ fields.settings settings.now.width settings.now.maximum settings.now.default.now) }
 {
-    if out_of_range(width) | out_of_range(maximum) {
-        return Verdict::Refused(Status::SizeOutOfRange);
+    let Settings {
+        width,
+        maximum,
+        default,
+    } = *settings;
+    if out_of_range(width) || out_of_range(maximum) {
+        return Err(Status::SizeOutOfRange);
     }
     if buffer < maximum {
-        return Verdict::Refused(Status::BufferTooShort);
+        return Err(Status::BufferTooShort);
     }
-    if maximum < default {
-        return Verdict::Refused(Status::DefaultTooLong);
+    if maximum < default.len() {
+        return Err(Status::DefaultTooLong);
     }
-    Verdict::Accepted
+    Ok(Field {
+        width,
+        maximum,
+        default,
+    })
 }
 
 // Refusal 19.
-fn state_verdict(width: usize, maximum: usize, state: State) -> Verdict
-    ensures { result ≡ rules.state_verdict width maximum state }
+fn state_verdict(field: &Field, state: State) -> Result<(), Status>
+    ensures { result ≡ rules.state_verdict field.now.width field.now.maximum state }
 {
-    if (maximum < state.length) | ((state.length < state.cursor) | (width < state.cursor)) {
-        return Verdict::Refused(Status::StateOutOfRange);
+    if field.maximum < state.length || state.length < state.cursor || field.width < state.cursor {
+        return Err(Status::StateOutOfRange);
     }
-    Verdict::Accepted
+    Ok(())
 }
 
 // Refusals 11, 12 and 13, and then 19.
-pub fn keys_verdict(
-    width: usize,
-    maximum: usize,
-    default: usize,
+pub fn keys_verdict<'a>(
+    settings: &Settings<'a>,
     buffer: usize,
     state: State,
-) -> Verdict
-    ensures { result ≡ rules.keys_verdict width maximum default buffer state }
+) -> Result<Field<'a>, Status>
+    ensures verdict { rules.verdict_of result ≡ rules.keys_verdict settings.now.width settings.now.maximum (length settings.now.default.now) buffer state }
+    ensures field { IfOk result (λ field. fields.settings_of field ≡ fields.settings settings.now.width settings.now.maximum settings.now.default.now) }
 {
-    let of_start = start_verdict(width, maximum, default, buffer);
-    match of_start {
-        Verdict::Refused(status) => Verdict::Refused(status),
-        Verdict::Accepted => state_verdict(width, maximum, state),
-    }
+    let field = start_verdict(settings, buffer)?;
+    state_verdict(&field, state)?;
+    Ok(field)
 }

@@ -10,9 +10,10 @@ use Rattle.editing.specs.Buffer.{laid, settings, content_of, state_of}
 use Rattle.editing.proofs.Texts.{take_laid, length_laid}
 use Rattle.editing.proofs.Keeps.{keeps_start}
 use Rattle.field.specs.declared.Status.TheVariants.{Done}
+use Rattle.std.specs.Prelude.{Some}
 use Rattle.field.specs.declared.Ending.TheVariants.{Return}
 use Rattle.field.specs.declared.KeysAnswer.{KeysAnswer}
-use Rattle.field.specs.declared.verdict.Verdict.TheVariants.{Refused}
+use Rattle.std.specs.Prelude.{Err}
 use Rattle.field.specs.Endings.{ending_of}
 use Rattle.field.specs.Typing.{type_keys}
 use Rattle.field.specs.Calls.{Reply, keys_call, text_by}
@@ -28,10 +29,10 @@ text_after_lem : (width maximum : ℕ) (default b : List ℕ) (state : State) (k
     ≡ text_by (length default) (keys_call width maximum default b state keys).answer.state (keys_call width maximum default b state keys).answer.ending
 text_after_lem width maximum default b state keys =
     by_keys width maximum default b state keys (λ r. r.answer.status ≡ Done → text_after width maximum default r ≡ text_by (length default) r.answer.state r.answer.ending)
-    (λ status e done. absurd (keys_not_done width maximum (length default) (length b) state (e ∙ ap Refused done)))
+    (λ status e done. absurd (keys_not_done width maximum (length default) (length b) state (e ∙ ap Err done)))
     (λ e _.
-    let sizes = keys_sized width maximum (length default) (length b) _ state refl e in
-    let r = ran width maximum default b state keys (keys_accepted width maximum (length default) (length b) _ state refl e) in
+    let sizes = keys_sized width maximum (length default) (length b) state e in
+    let r = ran width maximum default sizes.default_fits b state keys (keys_accepted width maximum (length default) (length b) state e) in
     let x = type_keys (settings width maximum default) (content_of state b) b keys in
     (accepts width maximum default x.buffer (state_of x.content) [] x.ending).text_given (rw r.len sizes) r.ready.within)
 
@@ -42,7 +43,7 @@ escape_gives_default width maximum default b state keys done end = text_after_le
 returned : (width maximum : ℕ) (default b : List ℕ) (state : State) (keys b' : List ℕ) → (keys_call width maximum default b state keys).answer.status ≡ Done
     → (type_keys (settings width maximum default) (content_of state b) b keys).content.text ≡ default
     → (type_keys (settings width maximum default) (content_of state b) b keys).buffer ≡ laid default b'
-    → (type_keys (settings width maximum default) (content_of state b) b keys).ending ≡ Return
+    → (type_keys (settings width maximum default) (content_of state b) b keys).ending ≡ Some Return
     → ReturnsDefault width maximum default (keys_call width maximum default b state keys)
 returned width maximum default b state keys b' done text bytes end =
     let is = keys_reply width maximum default b state keys (keys_was_accepted width maximum default b state keys done) in
@@ -54,13 +55,13 @@ unfolding type_keys ending_of
 start_returns_default width maximum default b =
     by_start width maximum default b
     (λ r. r.answer.status ≡ Done → ReturnsDefault width maximum default (keys_call width maximum default r.buffer r.answer.state (0x0d ∷ [])))
-    (λ status e done. absurd (start_not_done width maximum (length default) (length b) (e ∙ ap Refused done)))
+    (λ status e done. absurd (start_not_done width maximum (length default) (length b) (e ∙ ap Err done)))
     (λ e _.
-    let s = start_accepted width maximum (length default) (length b) _ refl e in
+    let s = start_accepted width maximum (length default) (length b) e in
     let len = length_laid default b (omega (arith, s.default_fits, s.room)) in
     let state = state_of (start_content width default) in
     returned width maximum default (laid default b) state (0x0d ∷ []) b
-    ((accepts width maximum default (laid default b) state (0x0d ∷ []) Return).keys_done (rw len s) (keeps_start width maximum default s.default_fits))
+    ((accepts width maximum default (laid default b) state (0x0d ∷ []) (Some Return)).keys_done (rw len s) (keeps_start width maximum default s.default_fits))
     (take_laid default b)
     refl
     refl)

@@ -8,9 +8,9 @@ use Rattle.editing.specs.declared.State.{State}
 use Rattle.editing.specs.Keys.{Content, Settings, press}
 use Rattle.editing.specs.Buffer.{laid, settings, content_of, state_of}
 use Rattle.field.specs.declared.Status.{Status}
-use Rattle.field.specs.declared.Ending.TheVariants.{None}
+use Rattle.std.specs.Prelude.{None}
 use Rattle.field.specs.declared.KeysAnswer.{KeysAnswer}
-use Rattle.field.specs.declared.verdict.Verdict.TheVariants.{Accepted, Refused}
+use Rattle.std.specs.Prelude.{Ok, Err}
 use Rattle.field.specs.Verdict.{keys_verdict}
 use Rattle.field.specs.Rules.{Sized}
 use Rattle.field.specs.Endings.{ending_of}
@@ -67,7 +67,7 @@ module _ (width maximum : ℕ) (default b : List ℕ) (state : State) (xs ys : L
   abbrev x : Typed
   x = type_keys f (content_of state b) b xs
 
-  cut_refused : (status : Status) → keys_verdict width maximum (length default) (length b) state ≡ Refused status → Cut (keys_call width maximum default) b state xs ys
+  cut_refused : (status : Status) → keys_verdict width maximum (length default) (length b) state ≡ Err status → Cut (keys_call width maximum default) b state xs ys
   cut_refused status e =
       let same : (keys : List ℕ) → keys_call width maximum default b state keys ≡ keys_refused status state b = λ keys. keys_refusal width maximum default b state keys status e in
       record {
@@ -75,12 +75,12 @@ module _ (width maximum : ℕ) (default b : List ℕ) (state : State) (xs ys : L
         ended = λ some. absurd (some (ap (λ (r : Reply KeysAnswer). r.answer.ending) (same xs)));
       }
 
-  module _ (e : keys_verdict width maximum (length default) (length b) state ≡ Accepted) where
+  module _ (e : keys_verdict width maximum (length default) (length b) state ≡ Ok tt) where
     sizes : Sized width maximum (length default) (length b)
-    sizes = keys_sized width maximum (length default) (length b) _ state refl e
+    sizes = keys_sized width maximum (length default) (length b) state e
 
     left : Ran width maximum default b xs x
-    left = ran width maximum default b state xs (keys_accepted width maximum (length default) (length b) _ state refl e)
+    left = ran width maximum default sizes.default_fits b state xs (keys_accepted width maximum (length default) (length b) state e)
 
     -- the second call is accepted too, and goes on from what the first left
     second : keys_call width maximum default x.buffer (state_of x.content) ys ≡ keys_typed (type_keys f x.content x.buffer ys)

@@ -11,13 +11,15 @@ use Rattle.editing.specs.Keys.{Content, Settings, Effect}
 use Rattle.editing.specs.Buffer.{laid, settings, content_of, state_of, Ready}
 use Rattle.editing.proofs.Texts.{laid_front, length_laid, behind_laid, state_content}
 use Rattle.editing.proofs.Keeps.{keeps_start, beeped_or_not}
-use Rattle.field.specs.declared.verdict.Verdict.TheVariants.{Refused}
+use Rattle.std.specs.Prelude.{Err}
 use Rattle.field.specs.declared.Ending.{Ending}
-use Rattle.field.specs.declared.Ending.TheVariants.{None, Return, Escape}
+use Rattle.std.specs.Prelude.{Option, Some, None}
+use Rattle.field.specs.declared.Ending.TheVariants.{Return, Escape}
 use Rattle.field.specs.Endings.{ending_of}
+use Rattle.field.specs.Rules.{Sized}
 use Rattle.field.specs.Typing.{Typed, type_keys}
 use Rattle.field.specs.Calls.{start_call, keys_call, text_by, text_bytes}
-use Rattle.field.proofs.Verdicts.{start_accepted, keys_accepted}
+use Rattle.field.proofs.Verdicts.{start_accepted, keys_sized, keys_accepted}
 use Rattle.field.proofs.Endings.{ended?}
 use Rattle.field.proofs.Reading.{goes_on, ends}
 use Rattle.field_laws.specs.Laws.{StartLimits, KeysLimits, BeepChangesNothing, TextLimit}
@@ -27,25 +29,25 @@ use Rattle.field_laws.proofs.Ran.{ran}
 pub start_limits : (width maximum : ℕ) (default b : List ℕ) → StartLimits width maximum b (start_call width maximum default b)
 start_limits width maximum default b =
     by_start width maximum default b (StartLimits width maximum b)
-    (λ status e. record { within = λ done. absurd (start_not_done width maximum (length default) (length b) (e ∙ ap Refused done)); behind = refl; len = refl })
+    (λ status e. record { within = λ done. absurd (start_not_done width maximum (length default) (length b) (e ∙ ap Err done)); behind = refl; len = refl })
     (λ e.
-    let s = start_accepted width maximum (length default) (length b) _ refl e in
+    let s = start_accepted width maximum (length default) (length b) e in
     record { within = λ _. keeps_start width maximum default s.default_fits; behind = behind_laid default b maximum s.default_fits; len = length_laid default b (omega (arith, s.default_fits, s.room)) })
 
 pub keys_limits : (width maximum : ℕ) (default b : List ℕ) (state : State) (keys : List ℕ) → KeysLimits width maximum b keys (keys_call width maximum default b state keys)
 keys_limits width maximum default b state keys =
     by_keys width maximum default b state keys (KeysLimits width maximum b keys)
     (λ status e. record {
-      within = λ done. absurd (keys_not_done width maximum (length default) (length b) state (e ∙ ap Refused done));
+      within = λ done. absurd (keys_not_done width maximum (length default) (length b) state (e ∙ ap Err done));
       behind = refl;
       len = refl;
       read_lent = omega arith;
-      read_all = λ done. absurd (keys_not_done width maximum (length default) (length b) state (e ∙ ap Refused done));
+      read_all = λ done. absurd (keys_not_done width maximum (length default) (length b) state (e ∙ ap Err done));
       read_ending = λ some. absurd (some refl);
       beeps_read = omega arith;
     })
     (λ e.
-    let r = ran width maximum default b state keys (keys_accepted width maximum (length default) (length b) _ state refl e) in
+    let r = ran width maximum default (keys_sized width maximum (length default) (length b) state e).default_fits b state keys (keys_accepted width maximum (length default) (length b) state e) in
     record {
       within = λ _. r.ready.within;
       behind = r.behind;
@@ -77,18 +79,18 @@ beep_changes_nothing width maximum default b state key =
     by_keys width maximum default b state (key ∷ []) (BeepChangesNothing b state)
     (λ status e one. (refl, refl))
     (λ e one.
-    let ready = keys_accepted width maximum (length default) (length b) _ state refl e in
+    let ready = keys_accepted width maximum (length default) (length b) state e in
     let inside : state.length ≤ length b = omega (arith, ready.within, ready.room) in
     let k = beeped_key (settings width maximum default) (content_of state b) b key one (laid_front state.length b inside) in
     (ap state_of k.0 ∙ state_content state b inside, k.1))
 
-pub text_limit : (width maximum : ℕ) (default b : List ℕ) (state : State) (ending : Ending) → TextLimit width maximum default b state ending
+pub text_limit : (width maximum : ℕ) (default b : List ℕ) (state : State) (ending : Option Ending) → TextLimit width maximum default b state ending
 text_limit width maximum default b state ending =
     by_text width maximum default b state ending (λ x. length (text_bytes x default b) ≤ maximum)
     (λ status e. omega arith)
-    (λ e. given ending (keys_accepted width maximum (length default) (length b) _ state refl e))
+    (λ e. given ending (keys_sized width maximum (length default) (length b) state e) (keys_accepted width maximum (length default) (length b) state e))
   where
-    given : (ending : Ending) → Ready width maximum (length default) (length b) state → length (text_bytes (text_by (length default) state ending) default b) ≤ maximum
-    given None h = omega arith
-    given Return h = let len = length-take-le state.length b (omega (arith, h.within, h.room)) in omega (arith, h.within)
-    given Escape h = omega (arith, length-take-le (length default) default (omega arith), h.default_fits)
+    given : (ending : Option Ending) → Sized width maximum (length default) (length b) → Ready width maximum (length b) state → length (text_bytes (text_by (length default) state ending) default b) ≤ maximum
+    given None s h = omega arith
+    given (Some Return) s h = let len = length-take-le state.length b (omega (arith, h.within, h.room)) in omega (arith, h.within)
+    given (Some Escape) s h = omega (arith, length-take-le (length default) default (omega arith), s.default_fits)

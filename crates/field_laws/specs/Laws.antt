@@ -1,11 +1,11 @@
 -- Paper 02, request 01: what a host of an input field can rely on, over the calls as they are promised. Assumes nothing.
-use Rattle.std.specs.Prelude.{ℕ, ◌+◌, ◌-◌, ◌≤◌, ◌≡◌, List, [], ◌∷◌, ◌++◌, length, get_or, drop}
+use Rattle.std.specs.Prelude.{ℕ, ◌+◌, ◌-◌, ◌≤◌, ◌≡◌, List, [], ◌∷◌, ◌++◌, length, get_or, drop, Option, Some, None}
 use Rattle.reply.specs.Answers.{Answers}
 use Rattle.editing.specs.declared.State.{State}
 use Rattle.editing.specs.Buffer.{Within}
 use Rattle.field.specs.declared.Status.TheVariants.{Done, SizeOutOfRange, BufferTooShort, DefaultTooLong, StateOutOfRange}
 use Rattle.field.specs.declared.Ending.{Ending}
-use Rattle.field.specs.declared.Ending.TheVariants.{None, Return, Escape}
+use Rattle.field.specs.declared.Ending.TheVariants.{Return, Escape}
 use Rattle.field.specs.declared.StartAnswer.{StartAnswer}
 use Rattle.field.specs.declared.KeysAnswer.{KeysAnswer}
 use Rattle.field.specs.Statuses.{status_number}
@@ -21,7 +21,7 @@ pub record Statuses (width maximum : ℕ) (default buffer : List ℕ) (state : S
       (keys_call width maximum default buffer state keys).answer.status
 
 -- where no rule applies ('a width and a maximum of 1 to 254 each', a buffer of at least the maximum, a default of at most it, and a state within its limits) a call answers 0
-pub record Accepts (width maximum : ℕ) (default buffer : List ℕ) (state : State) (keys : List ℕ) (ending : Ending) : Type 0 where
+pub record Accepts (width maximum : ℕ) (default buffer : List ℕ) (state : State) (keys : List ℕ) (ending : Option Ending) : Type 0 where
   pub start_done : Sized width maximum (length default) (length buffer) → (start_call width maximum default buffer).answer.status ≡ Done
   pub keys_done : Sized width maximum (length default) (length buffer) → Within width maximum state → (keys_call width maximum default buffer state keys).answer.status ≡ Done
   pub text_given : Sized width maximum (length default) (length buffer) → Within width maximum state
@@ -75,7 +75,7 @@ abbrev pub BeepChangesNothing : List ℕ → State → Reply KeysAnswer → Type
 BeepChangesNothing buffer state r = r.answer.beeps ≡ 1 → (r.answer.state ≡ state) × (r.buffer ≡ buffer)
 
 -- no text is longer than the maximum
-abbrev pub TextLimit : ℕ → ℕ → List ℕ → List ℕ → State → Ending → Type 0
+abbrev pub TextLimit : ℕ → ℕ → List ℕ → List ℕ → State → Option Ending → Type 0
 TextLimit width maximum default buffer state ending = length (text_bytes (text_call width maximum (length default) (length buffer) state ending) default buffer) ≤ maximum
 
 -- ---- what the user has chosen: the text call after keys, with their state and ending
@@ -84,12 +84,12 @@ text_after width maximum default r = text_call width maximum (length default) (l
 
 -- 'Escape .. hands back the lent default itself', whatever was typed
 abbrev pub EscapeGivesDefault : ℕ → ℕ → List ℕ → Reply KeysAnswer → Type 0
-EscapeGivesDefault width maximum default r = r.answer.status ≡ Done → r.answer.ending ≡ Escape → text_after width maximum default r ≡ the_default (length default)
+EscapeGivesDefault width maximum default r = r.answer.status ≡ Done → r.answer.ending ≡ Some Escape → text_after width maximum default r ≡ the_default (length default)
 
 -- keys that end by Return, and a text with the default's bytes
 pub record ReturnsDefault (width maximum : ℕ) (default : List ℕ) (r : Reply KeysAnswer) : Type 0 where
   pub done : r.answer.status ≡ Done
-  pub ending : r.answer.ending ≡ Return
+  pub ending : r.answer.ending ≡ Some Return
   pub text : text_bytes (text_after width maximum default r) default r.buffer ≡ default
 
 -- 'the text starts as the default': so a start and then Return

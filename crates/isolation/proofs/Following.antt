@@ -6,7 +6,7 @@ use mathlib.Core.List.{List, [], ◌∷◌}
 use lib.Dec.{eqb}
 use lib.ListN.{length}
 use borrow.Author.Tests.{eqb-true, eqb-false}
-use Rattle.laws.proofs.Tests.{tested}
+use Rattle.std.proofs.lemmas.Bool.{cases_Bool}
 use Rattle.rectangle.specs.Local.{Agree}
 use Rattle.port.specs.declared.Port.{Port}
 use Rattle.port.specs.Valid.{ValidPort}
@@ -81,4 +81,4 @@ module _ (i n : ℕ) (small : i < 4) (is_open : n ≡ 0 → ⊥) where
       (λ q. let o = other c m s p t v ls lt e a (eqb-false _ _ q) in
       let r = follows cs (serve m s c).state (serve m s c).screen p t f.valid f.len lt o.0 o.1 in
       record { slot = rw q r.slot; cells = rw q r.cells; answers = rw q r.answers })
-      (tested (eqb c.client n))
+      (cases_Bool (eqb c.client n))

@@ -8,7 +8,7 @@ use lib.Dec.{eqb}
 use lib.ListN.{get_or}
 use borrow.Author.Tests.{eqb-true}
 use Rattle.laws.specs.Bits.{bit, count_below}
-use Rattle.laws.proofs.Tests.{not_both}
+use Rattle.std.proofs.lemmas.Bool.{both_ways}
 use Rattle.rectangle.specs.declared.Rect.{Rect}
 use Rattle.rectangle.specs.declared.Motion.TheVariants.{Clear}
 use Rattle.rectangle.specs.Cells.{inside}
@@ -70,8 +70,8 @@ first_claims = record {
   valid = fresh_multiplexer_lem;
   not_zero = λ e. omega arith;
   legal = omega arith;
-  new = λ i o e. not_both ((decides_client fresh_multiplexer 7).passes (i, o, e)) refl;
-  apart = λ i o k x y. not_both ((decides_pane_shared fresh_multiplexer fresh_multiplexer_lem left_pane (omega arith)).passes (i, o, (k, x, y))) refl;
+  new = λ i o e. both_ways _ refl ((decides_client fresh_multiplexer 7).passes (i, o, e));
+  apart = λ i o k x y. both_ways _ refl ((decides_pane_shared fresh_multiplexer fresh_multiplexer_lem left_pane (omega arith)).passes (i, o, (k, x, y)));
   room = omega arith;
 }
 
@@ -89,8 +89,8 @@ second_claims = record {
   valid = single_valid;
   not_zero = λ e. omega arith;
   legal = omega arith;
-  new = λ i o e. not_both ((decides_client single 200).passes (i, o, e)) refl;
-  apart = λ i o k x y. not_both ((decides_pane_shared single single_valid right_pane (omega arith)).passes (i, o, (k, x, y))) refl;
+  new = λ i o e. both_ways _ refl ((decides_client single 200).passes (i, o, e));
+  apart = λ i o k x y. both_ways _ refl ((decides_pane_shared single single_valid right_pane (omega arith)).passes (i, o, (k, x, y)));
   room = omega arith;
 }
 
@@ -176,7 +176,7 @@ answered_200 = ap (map outline) (instance_isolated.answers 1 right_open) ∙ rw 
 
 none_9 : Closed pair 9
 unfolding pair free_slot slot_of has_client
-none_9 i o e = not_both ((decides_client pair 9).passes (i, o, e)) refl
+none_9 i o e = both_ways _ refl ((decides_client pair 9).passes (i, o, e))
 
 -- 0 never has an open slot
 pub none_0 : (m : Multiplexer) → Closed m 0

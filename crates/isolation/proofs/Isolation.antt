@@ -9,7 +9,7 @@ use lib.Dec.{eqb}
 use lib.ListN.{length, get_or}
 use lib.Seq.{ext_get_or}
 use borrow.Author.Tests.{eqb-true, eqb-false, eq-eqb}
-use Rattle.laws.proofs.Tests.{tested, below?}
+use Rattle.std.proofs.lemmas.Bool.{cases_Bool, cases_lt}
 use Rattle.rectangle.specs.Cells.{Inside}
 use Rattle.rectangle.proofs.Edits.{inside?}
 use Rattle.slots.specs.declared.Slot.{Slot}
@@ -60,7 +60,7 @@ stays (c ∷ cs) m s v l =
           ⊎_elim
           (λ q. rw q (ap₂ ◌∷◌ (ap answer_from (turned_away m s c v l (rw (eqb-true c.client n q) h))) others))
           (λ q. rw q others)
-          (tested (eqb c.client n));
+          (cases_Bool (eqb c.client n));
     }
 
 -- one call more at the end
@@ -105,7 +105,7 @@ first_below P try zero = inr (λ i h. absurd (omega arith))
 first_below P try (suc n) =
     ⊎_elim (λ p. inl (n, omega arith, p))
     (λ none. ⊎_elim (λ k. inl (k.0, (let h = k.1 in omega arith), k.2))
-    (λ below. inr (λ i h p. ⊎_elim (λ l. below i l p) (λ l. none (subst P (omega arith) p)) (below? i n)))
+    (λ below. inr (λ i h p. ⊎_elim (λ l. below i l p) (λ l. none (subst P (omega arith) p)) (cases_lt i n)))
     (first_below P try n))
     (try n)
 
@@ -116,7 +116,7 @@ pane? m k =
     (first_below (λ i. ((slot_at m i).client ≡ 0 → ⊥) × Inside (pane m i) k)
     (λ i. ⊎_elim (λ e. inr (λ p. p.0 (eqb-true _ _ e)))
     (λ e. ⊎_elim (λ x. inl (eqb-false _ _ e, x)) (λ out. inr (λ p. out p.1)) (inside? (pane m i) k))
-    (tested (eqb (slot_at m i).client 0)))
+    (cases_Bool (eqb (slot_at m i).client 0)))
     4)
 
 -- what two servers leave that are both isolated
@@ -131,7 +131,7 @@ module _ (f g : Server) (m : Multiplexer) (s : List ℕ) (cs ds : List Call) (a 
       (λ i h. let h' : i < 4 = rw j at h in
       ⊎_elim (λ z. a.free i (h', eqb-true _ _ z) ∙ sym (b.free i (h', eqb-true _ _ z)))
       (λ z. let o : Open m i = (h', eqb-false _ _ z) in a.ports i o ∙ rw (e (slot_at m i).client) (sym (b.ports i o)))
-      (tested (eqb (slot_at m i).client 0))))
+      (cases_Bool (eqb (slot_at m i).client 0))))
 
   ends_screen : (serve_all f m s cs).screen ≡ (serve_all g m s ds).screen
   ends_screen =

@@ -6,7 +6,7 @@ use mathlib.Core.Bool.{cond}
 use mathlib.Core.List.{List, [], ◌∷◌}
 use lib.Dec.{ltb, eqb}
 use lib.ListN.{length, get_or, set, length-set}
-use Rattle.laws.proofs.Tests.{not_both}
+use Rattle.std.proofs.lemmas.Bool.{both_ways}
 use Rattle.rectangle.specs.Edit.{draw}
 use Rattle.screen.specs.Size.{blank_screen}
 use Rattle.screen.proofs.Sizes.{blank_size}
@@ -45,7 +45,7 @@ empties n = call_by n (Write []) ∷ []
 -- one that serves the first slot whatever the number: client 200 turns client 7's text inverse
 not_first_slot : Isolation (on_place 0) → ⊥
 unfolding pair inverts serve_all calls_of standalone written stream step parameters control obey
-not_first_slot d = not_both refl (ap (λ (x : Slot). x.port.view.inverse) ((d.isolated pair blank_screen (inverts 200) pair_valid blank_size).ports 0 left_open))
+not_first_slot d = both_ways _ (ap (λ (x : Slot). x.port.view.inverse) ((d.isolated pair blank_screen (inverts 200) pair_valid blank_size).ports 0 left_open)) refl
 
 -- one that does nothing, and says that it is done
 does_nothing : Server
@@ -53,7 +53,7 @@ does_nothing m s c = refusal_with none_taken Done m s (lent_block c.kind)
 
 not_nothing : Isolation does_nothing → ⊥
 unfolding does_nothing pair inverts serve_all calls_of standalone written stream step parameters control obey
-not_nothing d = not_both (ap (λ (x : Slot). x.port.view.inverse) ((d.isolated pair blank_screen (inverts 7) pair_valid blank_size).ports 0 left_open)) refl
+not_nothing d = both_ways _ refl (ap (λ (x : Slot). x.port.view.inverse) ((d.isolated pair blank_screen (inverts 7) pair_valid blank_size).ports 0 left_open))
 
 -- the number of the first answer
 first_number : List Answer → ℕ

@@ -1,60 +1,32 @@
 -- From tests to facts and back, for the proofs of every crate. Assumes nothing.
 use Prim.Native.Nat.{ℕ, zero, suc, ◌≤◌, ◌<◌}
-use mathlib.Core.Path.{◌≡◌, refl}
+use mathlib.Core.Path.{◌≡◌, refl, sym, ◌∙◌}
 use mathlib.Core.Bool.{Bool, true, false, cond, not, ◌&&◌, ◌||◌}
 use mathlib.Core.Logic.{◌⊎◌, inl, inr, ⊎_elim}
 use native.Mathlib.Omega.{arith}
 use lib.Dec.{ltb, leb, eqb}
 use borrow.Author.Tests.{ltb-true, ltb-false, leb-true, eqb-true, lt-ltb, le-ltb, le-leb, eq-eqb, not-true}
+use Rattle.std.proofs.lemmas.Bool.{both_ways, cases_Bool, cond_both, and_parts, and_from}
 
--- a test, with what it shows
-pub tested : (t : Bool) → (t ≡ true) ⊎ (t ≡ false)
-tested true = inl refl
-tested false = inr refl
-
-pub not_both : {t : Bool} → t ≡ true → t ≡ false → ⊥
-not_both p q = let z : ◌≡◌ {A = ℕ} 0 1 = cc in omega arith
-
-pub below? : (a b : ℕ) → (a < b) ⊎ (b ≤ a)
-below? a b = ⊎_elim (λ e. inl (ltb-true a b e)) (λ e. inr (ltb-false a b e)) (tested (ltb a b))
-
--- a choice has a property where both its arms have it, each under its test
+-- a choice has a property where both its arms have it, each under its test: the library's law, with the property first and the arms left to the goal
 pub by_test : {A : Type 0} (P : A → Type 0) (t : Bool) {a b : A} → (t ≡ true → P a) → (t ≡ false → P b) → P (cond t a b)
-by_test P true f g = f refl
-by_test P false f g = g refl
+by_test P t f g = cond_both t _ _ P f g
 
+-- the library's law in two, as rulesets ask for each half
 pub and_left : (a b : Bool) → (a && b) ≡ true → a ≡ true
-and_left true b e = refl
-and_left false b e = e
+and_left a b e = (and_parts a b e).0
 
 pub and_right : (a b : Bool) → (a && b) ≡ true → b ≡ true
-and_right true b e = e
-and_right false b e = cc
-
-pub and_both : (a b : Bool) → a ≡ true → b ≡ true → (a && b) ≡ true
-and_both a b p q = simp (p, q)
-
--- one of two tests is true
-pub or_first : (a b : Bool) → a ≡ true → (a || b) ≡ true
-or_first a b e = simp e
-
-pub or_second : (a b : Bool) → b ≡ true → (a || b) ≡ true
-or_second true b e = refl
-or_second false b e = e
-
--- neither of two tests is true
-pub or_left : (a b : Bool) → (a || b) ≡ false → a ≡ false
-or_left true b e = e
-or_left false b e = refl
-
-pub or_right : (a b : Bool) → (a || b) ≡ false → b ≡ false
-or_right true b e = absurd (not_both refl e)
-or_right false b e = e
+and_right a b e = (and_parts a b e).1
 
 -- a test is true exactly when a fact holds
 pub record Decides (t : Bool) (P : Type 0) : Type 0 where
   pub holds : t ≡ true → P
   pub passes : P → t ≡ true
+
+-- what a function shows that answered with the test
+pub answered : {t : Bool} {P : Type 0} → Decides t P → (answer : Bool) → answer ≡ t → answer ≡ true → P
+answered d answer is e = d.holds (sym is ∙ e)
 
 pub decides_lt : (a b : ℕ) → Decides (ltb a b) (a < b)
 decides_lt a b = record { holds = ltb-true a b; passes = lt-ltb a b }
@@ -68,7 +40,7 @@ decides_eq a b = record { holds = eqb-true a b; passes = eq-eqb a b }
 pub decides_both : {t u : Bool} {P Q : Type 0} → Decides t P → Decides u Q → Decides (t && u) (P × Q)
 decides_both {t} {u} d e = record {
   holds = λ k. (d.holds (and_left t u k), e.holds (and_right t u k));
-  passes = λ k. and_both t u (d.passes k.0) (e.passes k.1);
+  passes = λ k. and_from t u (d.passes k.0) (e.passes k.1);
 }
 
 -- the same fact in other words
@@ -77,18 +49,18 @@ decides_as d f g = record { holds = λ k. f (d.holds k); passes = λ k. d.passes
 
 -- a choice between two facts, by whether one holds
 pub decides_if : (t : Bool) {u w : Bool} {P Q : Type 0} → Decides u P → Decides w Q → Decides (cond t u w) ((t ≡ true → P) × (t ≡ false → Q))
-decides_if true d e = decides_as d (λ p. (λ _. p, λ k. absurd (not_both refl k))) (λ q. q.0 refl)
-decides_if false d e = decides_as e (λ p. (λ k. absurd (not_both k refl), λ _. p)) (λ q. q.1 refl)
+decides_if true d e = decides_as d (λ p. (λ _. p, λ k. absurd (both_ways _ k refl))) (λ q. q.0 refl)
+decides_if false d e = decides_as e (λ p. (λ k. absurd (both_ways _ refl k), λ _. p)) (λ q. q.1 refl)
 
 -- a fact that a test decides holds or does not
 pub either : {t : Bool} {P : Type 0} → Decides t P → P ⊎ (P → ⊥)
-either {t} d = ⊎_elim (λ e. inl (d.holds e)) (λ e. inr (λ p. not_both (d.passes p) e)) (tested t)
+either {t} d = ⊎_elim (λ e. inl (d.holds e)) (λ e. inr (λ p. both_ways _ e (d.passes p))) (cases_Bool t)
 
 pub fails : {t : Bool} {P : Type 0} → Decides t P → (P → ⊥) → t ≡ false
-fails {t} d no_p = ⊎_elim (λ e. absurd (no_p (d.holds e))) (λ e. e) (tested t)
+fails {t} d no_p = ⊎_elim (λ e. absurd (no_p (d.holds e))) (λ e. e) (cases_Bool t)
 
 pub decides_not : {t : Bool} {P : Type 0} → Decides t P → Decides (not t) (P → ⊥)
-decides_not {t} d = record { holds = λ e p. not_both (d.passes p) (not-true t e); passes = λ no_p. rw (fails d no_p) }
+decides_not {t} d = record { holds = λ e p. both_ways _ (not-true t e) (d.passes p); passes = λ no_p. rw (fails d no_p) }
 
 -- a flag is off
 pub decides_off : (t : Bool) → Decides (not t) (t ≡ false)
@@ -96,22 +68,22 @@ decides_off t = record { holds = not-true t; passes = λ e. rw e }
 
 pub decides_either : {t u : Bool} {P Q : Type 0} → Decides t P → Decides u Q → Decides (t || u) (P ⊎ Q)
 decides_either {t} {u} d e = record {
-  holds = λ k. ⊎_elim (λ h. inl (d.holds h)) (λ h. inr (e.holds (rw h at k))) (tested t);
-  passes = λ k. ⊎_elim (λ p. rw (d.passes p)) (λ q. ⊎_elim (λ h. rw h) (λ h. rw h (e.passes q)) (tested t)) k;
+  holds = λ k. ⊎_elim (λ h. inl (d.holds h)) (λ h. inr (e.holds (rw h at k))) (cases_Bool t);
+  passes = λ k. ⊎_elim (λ p. rw (d.passes p)) (λ q. ⊎_elim (λ h. rw h) (λ h. rw h (e.passes q)) (cases_Bool t)) k;
 }
 
 -- one fact, or else the other
 pub decides_else : {t u : Bool} {P Q : Type 0} → Decides t P → Decides u Q → Decides (t || u) ((P → ⊥) → Q)
 decides_else {t} {u} d e = record {
-  holds = λ k no_p. e.holds (⊎_elim (λ h. absurd (no_p (d.holds h))) (λ h. rw h at k) (tested t));
-  passes = λ f. ⊎_elim (λ h. rw h) (λ h. rw h (e.passes (f (λ p. not_both (d.passes p) h)))) (tested t);
+  holds = λ k no_p. e.holds (⊎_elim (λ h. absurd (no_p (d.holds h))) (λ h. rw h at k) (cases_Bool t));
+  passes = λ f. ⊎_elim (λ h. rw h) (λ h. rw h (e.passes (f (λ p. both_ways _ h (d.passes p))))) (cases_Bool t);
 }
 
 -- a is below b, or else a fact holds
 pub decides_unless : (a b : ℕ) {u : Bool} {Q : Type 0} → Decides u Q → Decides (ltb a b || u) (b ≤ a → Q)
 decides_unless a b {u} d = record {
   holds = λ k h. d.holds (rw (le-ltb a b h) at k);
-  passes = λ q. ⊎_elim (λ e. rw e) (λ e. rw e (d.passes (q (ltb-false a b e)))) (tested (ltb a b));
+  passes = λ q. ⊎_elim (λ e. rw e) (λ e. rw e (d.passes (q (ltb-false a b e)))) (cases_Bool (ltb a b));
 }
 
 -- a fact about some one of four numbers

@@ -12,7 +12,8 @@ use lib.Bits.{bit_or, or_add_and, and_le_r}
 use lib.Count.{ones}
 use lib.Pow.{pow_pos, pow_mono, shl_exact}
 use Rattle.laws.proofs.Bits.{same_bits, bit_of_or, bit_stretch, bit_none, ones_count}
-use Rattle.laws.proofs.Tests.{tested, not_both, and_left, and_right, Decides, decides_eq, decides_as}
+use Rattle.std.proofs.lemmas.Bool.{cases_Bool, both_ways}
+use Rattle.laws.proofs.Tests.{and_left, and_right, Decides, decides_eq, decides_as}
 use Rattle.rectangle.specs.declared.Rect.{Rect}
 use Rattle.rectangle.specs.declared.Edit.{Edit}
 use Rattle.rectangle.specs.Rectangles.{Legal, legal}
@@ -95,7 +96,7 @@ module _ (marks : ℕ) (r : Rect) where
   unfolding lines
   same_lines within =
       same_bits _ _ λ line.
-      marked_line marks r.top r.bottom line ∙ covered line (tested (is_marked marks line)) ∙ sym (line_marked r.top r.bottom line)
+      marked_line marks r.top r.bottom line ∙ covered line (cases_Bool (is_marked marks line)) ∙ sym (line_marked r.top r.bottom line)
     where
       covered : (line : ℕ) → (is_marked marks line ≡ true) ⊎ (is_marked marks line ≡ false) → (is_marked marks line || (leb r.top line && leb line r.bottom)) ≡ (leb r.top line && leb line r.bottom)
       covered line (inl is) = let at = within line is in simp (is, le-leb r.top line at.0, le-leb line r.bottom at.1)
@@ -111,7 +112,7 @@ module _ (marks : ℕ) (r : Rect) where
     where
       choose : (t : Bool) → legal r ≡ t → Decides (cond t (eqb (marked_in marks r) (line_marks r.top r.bottom)) false) (Legal r × WithinLines marks r)
       choose true e = decides_as decides_lines (λ w. ((decides_legal r).holds e, w)) (λ h. h.1)
-      choose false e = record { holds = λ f. absurd (true≢false (sym f)); passes = λ h. absurd (not_both ((decides_legal r).passes h.0) e) }
+      choose false e = record { holds = λ f. absurd (true≢false (sym f)); passes = λ h. absurd (both_ways _ e ((decides_legal r).passes h.0)) }
 
   -- so they are lines of the screen
   pub within_small : r.bottom ≤ 23 → WithinLines marks r → marks < 2 ^ 24
@@ -123,12 +124,12 @@ module _ (marks : ℕ) (r : Rect) where
       omega arith
 
 pub none_within : (r : Rect) → WithinLines no_marks r
-none_within r line is = absurd (not_both is (bit_none line))
+none_within r line is = absurd (both_ways _ (bit_none line) is)
 
 -- what is stored to inside a rectangle is marked inside it
 pub rect_within : (marks : ℕ) (home r : Rect) → home.top ≤ r.top → r.bottom ≤ home.bottom → WithinLines marks home → WithinLines (marked_in marks r) home
 unfolding has_line
-rect_within marks home r top bottom w line is = added (tested (is_marked marks line))
+rect_within marks home r top bottom w line is = added (cases_Bool (is_marked marks line))
   where
     added : (is_marked marks line ≡ true) ⊎ (is_marked marks line ≡ false) → (home.top ≤ line) × (line ≤ home.bottom)
     added (inl before) = w line before

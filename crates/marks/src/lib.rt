@@ -1,4 +1,5 @@
 // Line marks of request 02: which lines of the screen were stored to since the marks were last taken. Line r is bit r of a number, line 0 the lowest.
+// Lines are handed in as two numbers: a printed byte has a line and no rectangle.
 #![tactic(auto)]
 
 ghost use Rattle.std.specs.Prelude.{◌≡◌, ◌^◌, ◌≤◌, ◌<◌};
@@ -38,5 +39,5 @@ pub fn count(marks: u32) -> usize
     requires { marks < 2 ^ 24 }
     ensures { result ≡ rules.line_count marks }
 {
-    u32::count_ones(marks) as usize
+    marks.count_ones() as usize
 }

@@ -4,22 +4,24 @@ use mathlib.Core.Path.{◌≡◌}
 use mathlib.Core.Bool.{not}
 use lib.Dec.{leb, eqb}
 use borrow.Author.Tests.{not-false, eqb-false, ne_eqb, leb-false, lt-leb}
-use Rattle.laws.proofs.Tests.{not_both, Decides, decides_eq, decides_both, decides_as, fails, decides_not, decides_any}
+use Rattle.std.proofs.lemmas.Bool.{both_ways}
+use Rattle.laws.proofs.Tests.{Decides, decides_eq, decides_both, decides_as, fails, decides_not, decides_any}
 use Rattle.rectangle.specs.declared.Rect.{Rect}
 use Rattle.rectangle.specs.Cells.{Inside}
 use Rattle.rectangle.specs.Rectangles.{legal, Legal}
 use Rattle.rectangle.proofs.Rectangles.{decides_legal}
 use Rattle.rectangle.proofs.Overlaps.{Overlap, decides_overlap, cell_overlap, overlap_cell}
-use Rattle.calls.proofs.Verdicts.{accepted_by}
+use Rattle.std.specs.Prelude.{Ok}
+use Rattle.calls.specs.Verdict.{first_of}
+use Rattle.calls.proofs.Verdicts.{accepted_by, both_accepted}
 use Rattle.slots.specs.declared.Multiplexer.{Multiplexer}
 use Rattle.slots.specs.State.{slot_at, pane, Open, slot_of, has_client, Closed}
 use Rattle.slots.specs.Valid.{valid_multiplexer, ValidMultiplexer}
 use Rattle.slots.specs.Panes.{shares_pane, pane_shared}
 use Rattle.slots.proofs.Validity.{decides_multiplexer}
 use Rattle.slots.proofs.Slots.{decides_client}
-use Rattle.multiplexer.specs.declared.Located.TheVariants.{At}
-use Rattle.multiplexer.specs.Located.{multiplexer_verdict, claim_verdict, free_slot_for, verdict_first, claim_slot}
-use Rattle.multiplexer.proofs.Chains.{not_refused, not_verdict, verdict_at}
+use Rattle.multiplexer.specs.Located.{multiplexer_verdict, claim_verdict, free_slot_for, claim_slot}
+use Rattle.multiplexer.proofs.Chains.{not_refused}
 
 -- ---- a pane that shares a cell with an open one
 pub decides_pane_shared : (m : Multiplexer) → ValidMultiplexer m → (r : Rect) → Legal r
@@ -43,13 +45,13 @@ pub record Claims (m : Multiplexer) (n : ℕ) (r : Rect) : Type 0 where
 
 module _ (m : Multiplexer) (n : ℕ) (r : Rect) where
   -- none applies, and the place is that of the lowest free slot
-  pub claims : (i : ℕ) → claim_slot m n r ≡ At i → Claims m n r × (i ≡ slot_of m 0)
+  pub claims : (i : ℕ) → claim_slot m n r ≡ Ok i → Claims m n r × (i ≡ slot_of m 0)
   unfolding multiplexer_verdict claim_verdict free_slot_for
   claims i e =
-      let a = verdict_at (multiplexer_verdict m) _ i e in
-      let b = verdict_at (claim_verdict n r) _ i a.1 in
-      let zero = not_verdict (eqb n 0) _ _ b.0 in
-      let illegal = not_verdict (not (legal r)) _ _ zero.1 in
+      let a = both_accepted (multiplexer_verdict m) _ e in
+      let b = both_accepted (claim_verdict n r) _ a.1 in
+      let zero = not_refused (eqb n 0) _ _ b.0 in
+      let illegal = not_refused (not (legal r)) _ _ zero.1 in
       let taken = not_refused (has_client m n) _ _ b.1 in
       let shared = not_refused (pane_shared m r) _ _ taken.1 in
       let full = not_refused (leb 4 (slot_of m 0)) _ _ shared.1 in
@@ -59,15 +61,15 @@ module _ (m : Multiplexer) (n : ℕ) (r : Rect) where
           valid = v;
           not_zero = eqb-false _ _ zero.0;
           legal = l;
-          new = λ j o k. not_both ((decides_client m n).passes (j, o, k)) taken.0;
-          apart = λ j o k x y. not_both ((decides_pane_shared m v r l).passes (j, o, (k, x, y))) shared.0;
+          new = λ j o k. both_ways _ taken.0 ((decides_client m n).passes (j, o, k));
+          apart = λ j o k x y. both_ways _ shared.0 ((decides_pane_shared m v r l).passes (j, o, (k, x, y)));
           room = leb-false _ _ full.0;
         },
         (let at = full.1 in cc),
       )
 
-  pub claims_lowest : Claims m n r → claim_slot m n r ≡ At (slot_of m 0)
-  unfolding verdict_first multiplexer_verdict claim_verdict free_slot_for
+  pub claims_lowest : Claims m n r → claim_slot m n r ≡ Ok (slot_of m 0)
+  unfolding first_of multiplexer_verdict claim_verdict free_slot_for
   claims_lowest o =
       simp (
         (decides_multiplexer m).passes o.valid,

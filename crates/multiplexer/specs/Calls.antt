@@ -1,5 +1,5 @@
 -- Paper 01, 'What comes back': the calls by client. 'Open: 1 to 7. Close: 2, 8. Write: 1, 2, 8. Return: 1, 2, 8, 9. Restore: 1, 2, 8, 10.' Request 02, of a taking: '2, 8'. Assumes nothing.
-use Rattle.std.specs.Prelude.{ℕ, List, [], length}
+use Rattle.std.specs.Prelude.{ℕ, List, [], length, Ok, Err}
 use Rattle.rectangle.specs.declared.Rect.{Rect}
 use Rattle.rectangle.specs.declared.Motion.TheVariants.{Clear}
 use Rattle.rectangle.specs.Edit.{edited}
@@ -11,11 +11,7 @@ use Rattle.calls.specs.Calls.{PortCall, written, block_returned, block_restored}
 use Rattle.calls.specs.Taking.{Taken, none_taken, marks_taken}
 use Rattle.slots.specs.declared.Multiplexer.{Multiplexer}
 use Rattle.slots.specs.State.{free_slot, slot_at, with_slot, with_port, fresh_slot}
-use Rattle.multiplexer.specs.declared.Answer.{Answer}
-use Rattle.multiplexer.specs.declared.Taking.{Taking}
-use Rattle.multiplexer.specs.declared.Located.{Located}
-use Rattle.multiplexer.specs.declared.Located.TheVariants.{Refused, At}
-use Rattle.multiplexer.specs.Located.{client_slot, claim_slot, located_on}
+use Rattle.multiplexer.specs.Located.{Located, client_slot, claim_slot, located_on}
 
 -- what a call by client leaves whose result is a count
 abbrev pub MultiplexerReply : Type 0
@@ -23,8 +19,8 @@ MultiplexerReply = Reply Status Multiplexer ℕ
 
 -- the refusal, or the reply at the slot; where it is refused, the result says nothing
 unfoldable pub on_slot : {Result : Type 0} → Result → Located → Multiplexer → List ℕ → List ℕ → (ℕ → Reply Status Multiplexer Result) → Reply Status Multiplexer Result
-on_slot nothing (Refused status) m s block reply = refusal_with nothing status m s block
-on_slot nothing (At i) m s block reply = reply i
+on_slot nothing (Err status) m s block reply = refusal_with nothing status m s block
+on_slot nothing (Ok i) m s block reply = reply i
 
 -- what a call on the port of slot i leaves
 abbrev pub relayed : {Result : Type 0} → Multiplexer → ℕ → Reply Status Port Result → Reply Status Multiplexer Result
@@ -61,9 +57,3 @@ closed_at m i = record { status = Done; state = with_slot m i free_slot; result 
 
 abbrev pub close_call : Multiplexer → ℕ → MultiplexerReply
 close_call m n = on_slot 0 (client_slot m n) m [] [] (closed_at m)
-
-abbrev pub answer_of : Status → Multiplexer → ℕ → Answer
-answer_of status m count = record { status = status; multiplexer = m; count = count }
-
-abbrev pub taking_of : Status → Multiplexer → Taken → Taking
-taking_of status m taken = record { status = status; multiplexer = m; marks = taken.marks; count = taken.count }

@@ -1,16 +1,20 @@
 -- The tests for validity and for a free slot's port are true exactly when paper 01's clauses hold; what keeps a port valid; and a fresh port of a legal home is valid. Assumes nothing.
 use Prim.Native.Nat.{ℕ, ◌≤◌, ◌<◌}
-use mathlib.Core.Path.{◌≡◌, refl, ap}
-use mathlib.Core.Bool.{Bool, true, false, ◌||◌}
+use mathlib.Core.Path.{◌≡◌, refl, sym, ap, ◌∙◌}
+use mathlib.Core.Bool.{Bool, true, false, not, ◌&&◌, ◌||◌}
 use mathlib.Core.Logic.{inl, inr, ⊎_elim}
-use mathlib.Core.List.{List}
+use mathlib.Core.List.{List, [], ◌∷◌}
 use native.Mathlib.Omega.{arith}
 use lib.Dec.{ltb, eqb}
-use lib.ListN.{get_or}
-use borrow.Author.Tests.{eqb-true, eqb-false, eq-eqb, ne_eqb}
-use Rattle.laws.proofs.Tests.{tested, not_both, Decides, decides_lt, decides_le, decides_eq, decides_both, decides_if, decides_unless, decides_four, decides_as, decides_off}
+use lib.ListN.{length, get_or}
+use Rattle.std.specs.Prelude.{slice_index_or}
+use Rattle.std.specs.Cmp.Lexicographic.{pointwise}
+use borrow.Author.Tests.{eqb-true, eqb-false, eq-eqb}
+use Rattle.std.proofs.Math.Bool.{beq, and_assoc, and-true, and-false}
+use Rattle.std.proofs.lemmas.Bool.{cases_Bool, both_ways}
+use Rattle.laws.proofs.Tests.{Decides, decides_lt, decides_le, decides_eq, decides_both, decides_if, decides_unless, decides_four, decides_as, decides_off}
 use Rattle.rectangle.specs.declared.Rect.{Rect}
-use Rattle.rectangle.specs.Rectangles.{OnScreen, Legal}
+use Rattle.rectangle.specs.Rectangles.{OnScreen, Legal, is_zero_rect}
 use Rattle.rectangle.proofs.Rectangles.{decides_legal, legal_on_screen, decides_within, decides_zero_rect}
 use Rattle.marks.specs.Marks.{WithinLines}
 use Rattle.marks.proofs.Marking.{decides_within_lines, none_within}
@@ -61,6 +65,54 @@ decides_zero_view v =
       (ap (λ (x : View). x.flags) e, (ap (λ (x : View). x.inverse) e, ap (λ (x : View). x.mousetext) e)),
     ))
 
+-- what `View::default` promises, field by field, is the zero view
+abbrev pub ZeroFields : View → Type 0
+ZeroFields v =
+    ((v.viewport.left ≡ 0) × ((v.viewport.top ≡ 0) × ((v.viewport.right ≡ 0) × (v.viewport.bottom ≡ 0))))
+    × ((v.column ≡ 0) × ((v.line ≡ 0) × (((v.flags.dle ≡ false) × ((v.flags.scroll ≡ false) × ((v.flags.wrap ≡ false) × ((v.flags.lf ≡ false) × (v.flags.advance ≡ false))))) × ((v.inverse ≡ false) × (v.mousetext ≡ false)))))
+
+pub zero_fields : (v : View) → ZeroFields v → v ≡ zero_view
+unfolding zero_view
+zero_fields v d = λ i. record {
+  viewport = record { left = d.0.0 i; top = d.0.1.0 i; right = d.0.1.1.0 i; bottom = d.0.1.1.1 i };
+  column = d.1.0 i;
+  line = d.1.1.0 i;
+  flags = record { dle = d.1.1.1.0.0 i; scroll = d.1.1.1.0.1.0 i; wrap = d.1.1.1.0.1.1.0 i; lf = d.1.1.1.0.1.1.1.0 i; advance = d.1.1.1.0.1.1.1.1 i };
+  inverse = d.1.1.1.1.0 i;
+  mousetext = d.1.1.1.1.1 i;
+}
+
+pub four_zeros : (xs : List ℕ) → length xs ≡ 4 → ((i d : ℕ) → i < 4 → slice_index_or xs i d ≡ 0) → xs ≡ no_parameters
+four_zeros [] len all = absurd (omega arith)
+four_zeros (a ∷ []) len all = absurd (omega arith)
+four_zeros (a ∷ b ∷ []) len all = absurd (omega arith)
+four_zeros (a ∷ b ∷ c ∷ []) len all = absurd (omega arith)
+four_zeros (a ∷ b ∷ c ∷ d ∷ []) len all = λ i. all 0 0 (omega arith) i ∷ all 1 0 (omega arith) i ∷ all 2 0 (omega arith) i ∷ all 3 0 (omega arith) i ∷ []
+four_zeros (a ∷ b ∷ c ∷ d ∷ e ∷ xs) len all = absurd (omega arith)
+
+beq_false : (t : Bool) → beq t false ≡ not t
+beq_false true = refl
+beq_false false = refl
+
+-- a view that equals the zero view in each field is zero: so a derived `==` is the test
+pub same_as_zero : {r : Bool} (v z : View) → z ≡ zero_view
+    → r ≡ ((eqb v.viewport.left z.viewport.left && (eqb v.viewport.top z.viewport.top && (eqb v.viewport.right z.viewport.right && eqb v.viewport.bottom z.viewport.bottom)))
+    && (eqb v.column z.column && (eqb v.line z.line && ((beq v.flags.dle z.flags.dle && (beq v.flags.scroll z.flags.scroll && (beq v.flags.wrap z.flags.wrap && (beq v.flags.lf z.flags.lf && beq v.flags.advance z.flags.advance))))
+    && (beq v.inverse z.inverse && beq v.mousetext z.mousetext)))))
+    → r ≡ is_zero_view v
+unfolding is_zero_view is_zero_flags is_zero_rect zero_view
+same_as_zero v z e d = d ∙ rw e (simp (and_assoc, beq_false))
+
+-- four parameters that equal zeros are all unused and zero
+zeros_unused : (xs : List ℕ) → length xs ≡ 4 → pointwise eqb xs no_parameters ≡ unused_zero xs 0
+unfolding unused_zero used_or_zero
+zeros_unused [] len = absurd (omega arith)
+zeros_unused (a ∷ []) len = absurd (omega arith)
+zeros_unused (a ∷ b ∷ []) len = absurd (omega arith)
+zeros_unused (a ∷ b ∷ c ∷ []) len = absurd (omega arith)
+zeros_unused (a ∷ b ∷ c ∷ d ∷ []) len = sym (and_assoc (eqb a 0) (eqb b 0) (eqb c 0 && (eqb d 0 && true))) ∙ simp and-true
+zeros_unused (a ∷ b ∷ c ∷ d ∷ e ∷ xs) len = absurd (omega arith)
+
 -- code 0, which stands for none, takes no parameters
 pub no_parameters_lem : (code : ℕ) → code ≡ 0 → 0 < parameters code → ⊥
 unfolding parameters
@@ -84,8 +136,8 @@ unfolding valid_wait count_fits
 decides_wait code gathered count =
     decides_as (decides_both (decides_if (eqb code 0) (decides_eq _ _) (decides_lt _ _)) (decides_unused gathered count))
     (λ k. record {
-      known = ⊎_elim (λ e. inl (eqb-true code 0 e)) (λ e. inr (let h = k.0.1 e in omega arith)) (tested (eqb code 0));
-      fewer = λ h. ⊎_elim (λ e. absurd (no_parameters_lem code (eqb-true code 0 e) h)) (λ e. k.0.1 e) (tested (eqb code 0));
+      known = ⊎_elim (λ e. inl (eqb-true code 0 e)) (λ e. inr (let h = k.0.1 e in omega arith)) (cases_Bool (eqb code 0));
+      fewer = λ h. ⊎_elim (λ e. absurd (no_parameters_lem code (eqb-true code 0 e) h)) (λ e. k.0.1 e) (cases_Bool (eqb code 0));
       none = λ e. k.0.0 (eq-eqb code 0 e);
       unused = k.1;
     })
@@ -111,7 +163,7 @@ module _ (p : Port) (h : ValidPort p) where
   view_valid v k = record { home = h.home; view = k; saved = h.saved; unsaved = h.unsaved; wait = h.wait; marks = h.marks }
 
   pub saved_valid : (v : View) → ValidView p.home v → ValidPort (with_saved p true v)
-  saved_valid v k = record { home = h.home; view = h.view; saved = λ _. k; unsaved = λ e. absurd (not_both refl e); wait = h.wait; marks = h.marks }
+  saved_valid v k = record { home = h.home; view = h.view; saved = λ _. k; unsaved = λ e. absurd (both_ways _ e refl); wait = h.wait; marks = h.marks }
 
   pub wait_valid : (code : ℕ) (gathered : List ℕ) (count : ℕ) → ValidWait code gathered count → ValidPort (with_wait p code gathered count)
   wait_valid code gathered count k = record { home = h.home; view = h.view; saved = h.saved; unsaved = h.unsaved; wait = k; marks = h.marks }
@@ -131,7 +183,7 @@ pub fresh_valid : (home : Rect) → Legal home → ValidPort (fresh_port home)
 fresh_valid home l = record {
   home = l;
   view = default_valid (fresh_port home) l;
-  saved = λ e. absurd (not_both e refl);
+  saved = λ e. absurd (both_ways _ refl e);
   unsaved = λ _. refl;
   wait = none_waits;
   marks = none_within home;
@@ -168,12 +220,18 @@ zero_port_is_zero = record {
   marks = refl;
 }
 
--- ---- parameters
--- how many parameters a code takes, by its number
-pub takes : {n : ℕ} (code k : ℕ) → code ≡ k → n ≡ parameters k → n ≡ parameters code
-takes code k e h = rw e h
+-- the tests of a port's fields in their order, and as `is_zero_port` joins them
+regrouped : (l t r b v h s rest : Bool) → ((l && (t && (r && b))) && (v && (h && (s && rest)))) ≡ ((((l && t) && (r && b)) && (v && s)) && (h && rest))
+regrouped l t r b v true s rest = simp and_assoc
+regrouped l t r b v false s rest = simp (and_assoc, and-false)
 
--- a waiting code, by how many parameters it takes
-pub fits_count : (code count n : ℕ) → n ≡ parameters code → (code ≡ 0 → ⊥) → ltb count n ≡ count_fits code count
-unfolding count_fits
-fits_count code count n e k = simp (ne_eqb code 0 k) (ap (ltb count) e)
+-- a port that equals the zero port in each field is that of a free slot
+pub same_as_zero_port : {r a b : Bool} (p z : Port) → length p.gathered ≡ 4 → z ≡ zero_port
+    → a ≡ is_zero_view p.view → b ≡ is_zero_view p.saved
+    → r ≡ ((eqb p.home.left z.home.left && (eqb p.home.top z.home.top && (eqb p.home.right z.home.right && eqb p.home.bottom z.home.bottom)))
+    && (a && (beq p.hassaved z.hassaved && (b && (eqb p.waiting z.waiting && (pointwise eqb p.gathered z.gathered && (eqb p.count z.count && eqb p.marks z.marks)))))))
+    → r ≡ is_zero_port p
+unfolding is_zero_port is_zero_rect
+same_as_zero_port p z long e f g d = d ∙ rw e (rw (f, g, zeros_unused p.gathered long, beq_false p.hassaved)
+    (regrouped (eqb p.home.left 0) (eqb p.home.top 0) (eqb p.home.right 0) (eqb p.home.bottom 0) (is_zero_view p.view) (not p.hassaved) (is_zero_view p.saved)
+    (eqb p.waiting 0 && (unused_zero p.gathered 0 && (eqb p.count 0 && eqb p.marks 0)))))

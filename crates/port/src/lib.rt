@@ -8,7 +8,7 @@ pub mod valid;
 use rectangle::Rect;
 
 // What $15 sets: document 000's cursor movement flags.
-#[derive(Clone, Copy)]
+#[derive(Clone, Copy, PartialEq, Eq, Debug, Default)]
 pub struct Flags {
     pub dle: bool,
     pub scroll: bool,
@@ -18,7 +18,8 @@ pub struct Flags {
 }
 
 // What $01 saves and $04 takes back. The cursor is absolute: a column and a line of the screen.
-#[derive(Clone, Copy)]
+// A host hands in any values of the fields, and a saved view may be any: so that the cursor lies in the viewport is a clause, `ValidView` or `Placed`, and no type.
+#[derive(Clone, Copy, PartialEq, Eq, Debug, Default)]
 pub struct View {
     pub viewport: Rect,
     pub column: u8,
@@ -30,7 +31,8 @@ pub struct View {
 
 // A port: its home rectangle, its view, at most one saved view, a command that waits for its parameters, and the marks of the lines that were stored to.
 // Fields that carry nothing hold 0 or false: saved where hassaved is false, count where waiting is 0, gathered from count on.
-#[derive(Clone, Copy)]
+// Paper 01 asks for this form by place ('an array of gathered parameter bytes beside the waiting code and count'), and a host hands in any values of the fields, a saved view without hassaved too, which refusal 2 is about (`valid_saved`, `valid_wait`): so that they fit one another is a clause, `ValidPort`, and no type.
+#[derive(Clone, Copy, PartialEq, Eq, Debug, Default)]
 pub struct Port {
     pub home: Rect,
     pub view: View,

@@ -1,12 +1,15 @@
-// When a port is valid. The tests are joined without branches, as the definitions are.
+// When a port is valid. The tests are joined without branches, as the definitions are, where they are no equality.
+#![tactic(auto, unfolding(crate::specs::Valid::cursor_inside, crate::specs::Valid::valid_view, crate::specs::Valid::valid_saved, crate::specs::Valid::parameters, crate::specs::Valid::used_or_zero, crate::specs::Valid::unused_zero, crate::specs::Valid::count_fits, crate::specs::Valid::valid_wait, crate::specs::Valid::valid_port))]
+
 ghost use Rattle.std.specs.Prelude.{◌≡◌, ◌<◌};
 ghost use Rattle.port.specs.Valid as rules;
 
-use super::{Flags, Port, View};
+use super::state::{zero_port, zero_view};
+use super::{Port, View};
 use marks::within_lines;
-use rectangle::{Rect, is_zero_rect, legal, within};
+use rectangle::{Rect, legal, within};
 
-// How many parameters a code takes.
+// How many parameters a code takes. Codes stay bytes, as the papers name them.
 pub fn parameters(code: u8) -> u8
     ensures { result ≡ rules.parameters code }
 {
@@ -35,17 +38,11 @@ fn valid_view(home: Rect, v: View) -> bool
     (legal(v.viewport) & within(v.viewport, home)) & cursor_inside(v)
 }
 
-fn is_zero_flags(f: Flags) -> bool
-    ensures { result ≡ rules.is_zero_flags f }
-{
-    ((!f.dle & !f.scroll) & (!f.wrap & !f.lf)) & !f.advance
-}
-
+// Every field 0 or false.
 fn is_zero_view(v: View) -> bool
     ensures { result ≡ rules.is_zero_view v }
 {
-    (is_zero_rect(v.viewport) & ((v.column == 0) & (v.line == 0)))
-        & (is_zero_flags(v.flags) & (!v.inverse & !v.mousetext))
+    v == zero_view()
 }
 
 fn valid_saved(home: Rect, has: bool, v: View) -> bool
@@ -61,10 +58,10 @@ fn used_or_zero(gathered: [u8; 4], count: u8, i: u8) -> bool
     requires { i < 4 }
     ensures { result ≡ rules.used_or_zero gathered count i }
 {
-    let place = i as usize;
-    (i < count) | (gathered[place] == 0)
+    (i < count) | (gathered[i as usize] == 0)
 }
 
+// Place by place: `gathered.iter().skip(count as usize).all(|&b| b == 0)` took 32 instructions, and this 24.
 fn unused_zero(gathered: [u8; 4], count: u8) -> bool
     ensures { result ≡ rules.unused_zero gathered count }
 {
@@ -87,32 +84,19 @@ fn valid_wait(code: u8, gathered: [u8; 4], count: u8) -> bool
     count_fits(code, count) & unused_zero(gathered, count)
 }
 
+// Inlined, so that a port that is judged where it is kept in registers is not copied to memory for each byte.
+#[inline(always)]
 pub fn valid_port(p: Port) -> bool
     ensures { result ≡ rules.valid_port p }
 {
-    let gathered = p.gathered;
     (legal(p.home) & valid_view(p.home, p.view))
         & (valid_saved(p.home, p.hassaved, p.saved)
-            & (valid_wait(p.waiting, gathered, p.count) & within_lines(p.marks, p.home)))
-}
-
-// The same, for the one-byte call alone: the compiler inlines a function that has one caller.
-// A port that is judged where it is kept in registers is not copied to memory for each byte.
-pub fn valid_port_inlined(p: Port) -> bool
-    ensures { result ≡ rules.valid_port p }
-{
-    let gathered = p.gathered;
-    (legal(p.home) & valid_view(p.home, p.view))
-        & (valid_saved(p.home, p.hassaved, p.saved)
-            & (valid_wait(p.waiting, gathered, p.count) & within_lines(p.marks, p.home)))
+            & (valid_wait(p.waiting, p.gathered, p.count) & within_lines(p.marks, p.home)))
 }
 
 // Every field 0 or false.
 pub fn is_zero_port(p: Port) -> bool
     ensures { result ≡ rules.is_zero_port p }
 {
-    let gathered = p.gathered;
-    (is_zero_rect(p.home) & (is_zero_view(p.view) & is_zero_view(p.saved)))
-        & (!p.hassaved
-            & ((p.waiting == 0) & (unused_zero(gathered, 0) & ((p.count == 0) & (p.marks == 0)))))
+    p == zero_port()
 }

@@ -5,7 +5,7 @@ use mathlib.Core.Bool.{true}
 use mathlib.Core.List.{List, [], ◌∷◌, ◌++◌, append-nil}
 use native.Mathlib.Omega.{arith}
 use native.Mathlib.Nat.{add-zero}
-use lib.ListN.{length, get_or, take, drop}
+use lib.ListN.{length, get_or, take}
 use borrow.Author.Tests.{lt-ltb}
 use Rattle.laws.proofs.Lists.{alone_taken, taken_length}
 use Rattle.rectangle.specs.declared.Edit.{Edit}
@@ -74,22 +74,22 @@ code_executed p code byte none large is w after s t d =
     subst (λ (m : Outcome). Executed m (with_drawn p w after) 0 s t) (sym prints) (record { port_is = λ i. with_drawn p (d.view i) (d.marks i); bells_are = refl; cells = d.cells })
 
 -- where no code was printed the cells are as they were
-none_drawn : (v w : View) (bytes : List ℕ) (from n : ℕ) (s t : List ℕ) → n ≤ 0 → RunPrinted v n (take n (drop from bytes)) w s t → t ≡ s
+none_drawn : (v w : View) (codes : List ℕ) (n : ℕ) (s t : List ℕ) → n ≤ 0 → RunPrinted v n (take n codes) w s t → t ≡ s
 unfolding stream draw
-none_drawn v w bytes from n s t few printed =
+none_drawn v w codes n s t few printed =
     let nothing : n ≡ 0 = omega arith in
-    subst (λ (k : ℕ). t ≡ draw (stream (with_view zero_port v) (take k (drop from bytes))).edits s) nothing (printed.as_stream (with_view zero_port v) refl refl).cells
+    subst (λ (k : ℕ). t ≡ draw (stream (with_view zero_port v) (take k codes)).edits s) nothing (printed.as_stream (with_view zero_port v) refl refl).cells
 
 -- one code alone, where there is no run
-pub one_printed : (v u : View) (before : ℕ) (w : View) (after : ℕ) (bytes : List ℕ) (from n byte : ℕ) (s s₁ t : List ℕ) → n ≤ 0 → RunPrinted v n (take n (drop from bytes)) u s s₁ → from < length bytes → Printing (get_or bytes from 0)
-    → byte ≡ stored_byte (mode_of v) (get_or bytes from 0)
+pub one_printed : (v u : View) (before : ℕ) (w : View) (after : ℕ) (codes : List ℕ) (n byte : ℕ) (s s₁ t : List ℕ) → n ≤ 0 → RunPrinted v n (take n codes) u s s₁ → 0 < length codes → Printing (get_or codes 0 0)
+    → byte ≡ stored_byte (mode_of v) (get_or codes 0 0)
     → Drew (print_byte v byte) before w after s₁ t
-    → Printed v before (take 1 (drop from bytes)) w after s t
-one_printed v u before w after bytes from n byte s s₁ t few run inside large is d = record {
+    → Printed v before (take 1 codes) w after s t
+one_printed v u before w after codes n byte s s₁ t few run some large is d = record {
   as_stream = λ p same none at.
-      let code : ℕ = get_or bytes from 0 in
-      let drew = subst (λ (x : List ℕ). Drew (print_byte v byte) before w after x t) (none_drawn v u bytes from n s s₁ few run) d in
-      subst (λ (codes : List ℕ). Executed (stream p codes) (with_drawn p w after) 0 s t) (sym (alone_taken bytes from inside))
+      let code : ℕ = get_or codes 0 0 in
+      let drew = subst (λ (x : List ℕ). Drew (print_byte v byte) before w after x t) (none_drawn v u codes n s s₁ few run) d in
+      subst (λ (cs : List ℕ). Executed (stream p cs) (with_drawn p w after) 0 s t) (sym (alone_taken codes 0 some))
       (single_executed p (with_drawn p w after) code 0 s t
       (code_executed p code byte none large (is ∙ ap (λ (x : View). stored_byte (mode_of x) code) (sym same)) w after s t
       (subst (λ (x : View). Drew (print_byte x byte) p.marks w after s t) (sym same) (subst (λ (x : ℕ). Drew (print_byte v byte) x w after s t) (sym at) drew))));
@@ -133,16 +133,16 @@ run_executed (c ∷ cs) p s on fits all none =
     (subst (λ (n : ℕ). Executed (stream p (c ∷ cs)) (with_drawn p (cursor_at v n v.line) (run_marks lines v.line (length cs))) 0 s t) place (cut_executed p q _ (c ∷ []) cs 0 0 s s₁ t (single_executed p q c 0 s s₁ first) rest))
 
 -- a run that was stored is printed
-module _ (v : View) (bytes : List ℕ) (from n : ℕ) (mode : Mode) (s t : List ℕ) (is : mode ≡ mode_of v) (on : v.flags.advance ≡ true) (placed : Placed v)
-    (run : RunStored mode v.column v.line (v.viewport.right - v.column) bytes from n s t) where
+module _ (v : View) (bytes : List ℕ) (n : ℕ) (mode : Mode) (s t : List ℕ) (is : mode ≡ mode_of v) (on : v.flags.advance ≡ true) (placed : Placed v)
+    (run : RunStored mode v.column v.line (v.viewport.right - v.column) bytes n s t) where
   pub run_fits : v.column + n ≤ v.viewport.right
   run_fits = let fits = run.fits in let inside = placed.to_right in omega arith
 
-  pub run_printed : RunPrinted v n (take n (drop from bytes)) (cursor_at v (v.column + n) v.line) s t
+  pub run_printed : RunPrinted v n (take n bytes) (cursor_at v (v.column + n) v.line) s t
   run_printed = record {
     as_stream = λ p same none.
-        let codes : List ℕ = take n (drop from bytes) in
-        let long : length codes ≡ n = taken_length bytes from n run.within in
+        let codes : List ℕ = take n bytes in
+        let long : length codes ≡ n = taken_length bytes 0 n (let h = run.within in omega arith) in
         let stored : t ≡ stored_run (mode_of v) v.column v.line codes s = run.cells ∙ ap (λ (x : Mode). stored_run x v.column v.line codes s) is in
         let fits : v.column + length codes ≤ v.viewport.right = let h = run_fits in omega arith in
         let executed =
@@ -161,8 +161,8 @@ run_marked v u w (suc n) before after codes s t run some is marks_are = record {
 }
 
 -- no code at all
-pub none_printed : (v : View) (bytes : List ℕ) (from : ℕ) (s : List ℕ) → RunPrinted v 0 (take 0 (drop from bytes)) (cursor_at v (v.column + 0) v.line) s s
-none_printed v bytes from s = record {
+pub none_printed : (v : View) (codes : List ℕ) (s : List ℕ) → RunPrinted v 0 (take 0 codes) (cursor_at v (v.column + 0) v.line) s s
+none_printed v codes s = record {
   as_stream = λ p same none.
       subst (λ (n : ℕ). Executed (stream p []) (with_drawn p (cursor_at v n v.line) p.marks) 0 s s) (sym (add-zero v.column))
       (subst (λ (x : View). Executed (stream p []) (with_drawn p x p.marks) 0 s s) same (nothing_executed p s));

@@ -1,11 +1,10 @@
 -- One byte printed; and the loop that prints spaces: what is left of them, done from here, is what was asked. Assumes nothing.
-use Prim.Native.Nat.{ℕ, zero, suc, ◌-◌, ◌≤◌, ◌<◌}
+use Prim.Native.Nat.{ℕ, zero, suc, ◌+◌, ◌-◌, ◌≤◌, ◌<◌}
 use mathlib.Core.Path.{◌≡◌, refl, sym, ap, ◌∙◌, subst}
 use mathlib.Core.Bool.{◌&&◌}
 use mathlib.Core.List.{List, ◌++◌}
 use native.Mathlib.Omega.{arith}
 use lib.Dec.{ltb}
-use lib.ListN.{length}
 use Rattle.laws.proofs.Tests.{by_test}
 use Rattle.rectangle.specs.declared.Motion.TheVariants.{Clear}
 use Rattle.rectangle.specs.Rectangles.{cell_at}
@@ -18,10 +17,10 @@ use Rattle.marks.proofs.Marking.{marked_append}
 use Rattle.port.specs.declared.View.{View}
 use Rattle.port.specs.Effect.{Effect, and_then}
 use Rattle.port.specs.Codes.{move_cursor_right, advance, store_cell, print_byte, print, mode_of, print_spaces}
-use Rattle.view.specs.declared.Moved.{Moved}
-use Rattle.view.specs.Plan.{change_list, effect_of}
+use Rattle.view.specs.declared.ViewPlan.{ViewPlan}
+use Rattle.view.specs.Plan.{effect_of}
 use Rattle.printer.specs.Execute.{AllOnScreen, Drew}
-use Rattle.printer.proofs.Draws.{front_on_screen, back_on_screen, length_draw}
+use Rattle.printer.proofs.Draws.{front_on_screen, back_on_screen}
 
 -- a byte stored, and then what the cursor's move draws
 module _ (v : View) (byte : ℕ) (all : AllOnScreen (print_byte v byte).edits) where
@@ -29,11 +28,11 @@ module _ (v : View) (byte : ℕ) (all : AllOnScreen (print_byte v byte).edits) w
   unfolding print_byte store_cell
   cell_on_screen = (all.0.right_in, all.0.bottom_in)
 
-  pub move_on_screen : (m : Moved) → effect_of m ≡ advance v → AllOnScreen (change_list m.change)
+  pub move_on_screen : (m : ViewPlan 1) → effect_of m ≡ advance v → AllOnScreen (effect_of m).edits
   unfolding print_byte store_cell
   move_on_screen m is = subst (λ (e : Effect). AllOnScreen e.edits) (sym is) all.1
 
-pub printed : (v : View) (byte : ℕ) (m : Moved) (before between : ℕ) (w : View) (after : ℕ) (s s₁ t : List ℕ) → effect_of m ≡ advance v → s₁ ≡ edited (cell_at v.column v.line) Clear byte s → between ≡ marked before v.line v.line → Drew (effect_of m) between w after s₁ t
+pub printed : (v : View) (byte : ℕ) (m : ViewPlan 1) (before between : ℕ) (w : View) (after : ℕ) (s s₁ t : List ℕ) → effect_of m ≡ advance v → s₁ ≡ edited (cell_at v.column v.line) Clear byte s → between ≡ marked before v.line v.line → Drew (effect_of m) between w after s₁ t
     → Drew (print_byte v byte) before w after s t
 unfolding print_byte store_cell draw
 printed v byte m before between w after s s₁ t is stored at_line d = record {
@@ -60,13 +59,12 @@ mode_kept v byte =
     Same e = mode_of e.view ≡ mode_of v
 
 pub record Spacing (byte asked : ℕ) (start : View) (first : ℕ) (s₀ : List ℕ) (left : ℕ) (v : View) (marks : ℕ) (s : List ℕ) : Type 0 where
-  pub long : length s ≡ 1920
   pub stored : byte ≡ stored_byte (mode_of v) 0x20
   pub edits : AllOnScreen (print_spaces left v).edits
   pub rest : (w : View) (after : ℕ) (t : List ℕ) → Drew (print_spaces left v) marks w after s t → Drew (print_spaces asked start) first w after s₀ t
 
-pub spacing_starts : (byte n : ℕ) (v : View) (marks : ℕ) (s : List ℕ) → length s ≡ 1920 → byte ≡ stored_byte (mode_of v) 0x20 → AllOnScreen (print_spaces n v).edits → Spacing byte n v marks s n v marks s
-spacing_starts byte n v marks s len stored edits = record { long = len; stored = stored; edits = edits; rest = λ w after t d. d }
+pub spacing_starts : (byte n : ℕ) (v : View) (marks : ℕ) (s : List ℕ) → AllOnScreen (print_spaces n v).edits × (byte ≡ stored_byte (mode_of v) 0x20) → Spacing byte n v marks s (n - 0) v marks s
+spacing_starts byte n v marks s asked = let all : n ≡ n - 0 = omega arith in subst (λ (k : ℕ). Spacing byte n v marks s k v marks s) all (record { stored = asked.1; edits = asked.0; rest = λ w after t d. d })
 
 pub spacing_ends : (byte n : ℕ) (v : View) (first : ℕ) (s₀ : List ℕ) (left : ℕ) (w : View) (marks : ℕ) (s : List ℕ) → Spacing byte n v first s₀ left w marks s → left ≤ 0 → Drew (print_spaces n v) first w marks s₀ s
 unfolding print_spaces draw
@@ -90,11 +88,10 @@ module _ {byte asked : ℕ} {start : View} {first : ℕ} {s₀ : List ℕ} {left
   pub space_edits : AllOnScreen (print_byte v byte).edits
   space_edits = front_on_screen (print_byte v byte).edits (print_spaces (left - 1) (print_byte v byte).view).edits all_edits
 
-  pub spacing_again : (w : View) (after : ℕ) (t : List ℕ) → Drew (print_byte v byte) marks w after s t → Spacing byte asked start first s₀ (left - 1) w after t
-  spacing_again w after t d = subst (λ (x : View). Spacing byte asked start first s₀ (left - 1) x after t) (sym d.view) (record {
-    long = ap length d.cells ∙ length_draw (print_byte v byte).edits s r.long;
+  pub spacing_again : (next : ℕ) → next + 1 ≡ left → (w : View) (after : ℕ) (t : List ℕ) → Drew (print_byte v byte) marks w after s t → Spacing byte asked start first s₀ next w after t
+  spacing_again next e w after t d = let less : left - 1 ≡ next = omega arith in subst (λ (n : ℕ). Spacing byte asked start first s₀ n w after t) less (subst (λ (x : View). Spacing byte asked start first s₀ (left - 1) x after t) (sym d.view) (record {
     stored = r.stored ∙ ap (λ (k : Mode). stored_byte k 0x20) (sym (mode_kept v byte));
     edits = back_on_screen (print_byte v byte).edits (print_spaces (left - 1) (print_byte v byte).view).edits all_edits;
-    rest = λ x end u e. r.rest x end u (subst (λ (y : Effect). Drew y marks x end s u) (sym split)
-        (record { view = e.view; marks = e.marks ∙ ap (λ (n : ℕ). marked_by n (print_spaces (left - 1) (print_byte v byte).view).edits) d.marks ∙ sym (marked_append marks (print_byte v byte).edits (print_spaces (left - 1) (print_byte v byte).view).edits); cells = e.cells ∙ ap (draw (print_spaces (left - 1) (print_byte v byte).view).edits) d.cells ∙ sym (draw_append (print_byte v byte).edits (print_spaces (left - 1) (print_byte v byte).view).edits s) }));
-  })
+    rest = λ x end u h. r.rest x end u (subst (λ (y : Effect). Drew y marks x end s u) (sym split)
+        (record { view = h.view; marks = h.marks ∙ ap (λ (n : ℕ). marked_by n (print_spaces (left - 1) (print_byte v byte).view).edits) d.marks ∙ sym (marked_append marks (print_byte v byte).edits (print_spaces (left - 1) (print_byte v byte).view).edits); cells = h.cells ∙ ap (draw (print_spaces (left - 1) (print_byte v byte).view).edits) d.cells ∙ sym (draw_append (print_byte v byte).edits (print_spaces (left - 1) (print_byte v byte).view).edits s) }));
+  }))

@@ -8,7 +8,7 @@ use borrow.Author.Rules.{rules}
 use lib.ListN.{length, get_or, get_or-eq_default}
 use lib.Seq.{ext_get_or}
 use Rattle.laws.specs.Tabulate.{length_tabulate, get_or_tabulate}
-use Rattle.laws.proofs.Tests.{below?}
+use Rattle.std.proofs.lemmas.Bool.{cases_lt}
 use Rattle.rectangle.specs.declared.Rect.{Rect}
 use Rattle.rectangle.specs.declared.Edit.{Edit}
 use Rattle.rectangle.specs.declared.Motion.{Motion}
@@ -83,7 +83,7 @@ edit_local r q m fill w right bottom =
       outside = λ s l i out. ⊎_elim
           (λ h. edited_at r m fill s i h ∙ cell_outside r m fill _ i (λ x. out (within_inside w x)))
           (λ h. edited_past r m fill s i h ∙ sym (get_or-eq_default s 0 (omega arith)))
-          (below? i 1920);
+          (cases_lt i 1920);
       same = λ s t l l' agree i h.
           edited_at r m fill s i (omega arith)
           ∙ cell_same r m fill _ _ i (omega arith) (λ k x. agree k (within_inside w x)) (agree i h)

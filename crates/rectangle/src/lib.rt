@@ -1,12 +1,13 @@
 // Rectangles of the screen of paper 01, 'Screen and port', and edits of them. What an edit makes of the 1,920 cells is defined here; the loops that carry it out are in `screen`.
-// The tests are joined without branches, as the definitions are.
+// The tests are joined without branches, as the definitions are, where they are no equality.
 #![tactic(auto)]
 
 ghost use Rattle.std.specs.Prelude.{◌≡◌};
 ghost use Rattle.rectangle.specs.Rectangles as rules;
 
 // A rectangle of cells. All four edges are inclusive.
-#[derive(Clone, Copy)]
+// Of any values, as a host hands them in (`legal` judges a pane, refusal 4, and `valid_port` a viewport): so that it lies on the screen is a clause, `OnScreen`, of what reads or writes its cells, and no type.
+#[derive(Clone, Copy, PartialEq, Eq, Debug, Default)]
 pub struct Rect {
     pub left: u8,
     pub top: u8,
@@ -15,7 +16,7 @@ pub struct Rect {
 }
 
 // How the cells of a rectangle move. A cell that none moves to is vacated.
-#[derive(Clone, Copy)]
+#[derive(Clone, Copy, PartialEq, Eq, Debug)]
 pub enum Motion {
     // All are vacated.
     Clear,
@@ -28,7 +29,7 @@ pub enum Motion {
 }
 
 // A change of one rectangle: its cells move, and the vacated ones become fill.
-#[derive(Clone, Copy)]
+#[derive(Clone, Copy, PartialEq, Eq, Debug)]
 pub struct Edit {
     pub rect: Rect,
     pub motion: Motion,
@@ -77,5 +78,5 @@ pub fn shares_cell(r: Rect, q: Rect) -> bool
 pub fn is_zero_rect(r: Rect) -> bool
     ensures { result ≡ rules.is_zero_rect r }
 {
-    ((r.left == 0) & (r.top == 0)) & ((r.right == 0) & (r.bottom == 0))
+    r == Rect::default()
 }

@@ -9,7 +9,8 @@ use lib.Dec.{eqb}
 use lib.ListN.{length, get_or}
 use borrow.Author.Tests.{eqb-true, eqb-false}
 use Rattle.laws.proofs.Bits.{bit_none}
-use Rattle.laws.proofs.Tests.{tested, decides_any}
+use Rattle.std.proofs.lemmas.Bool.{cases_Bool}
+use Rattle.laws.proofs.Tests.{decides_any}
 use Rattle.rectangle.specs.declared.Rect.{Rect}
 use Rattle.rectangle.specs.Cells.{line_of, Inside}
 use Rattle.marks.specs.Marks.{is_marked, has_line, no_marks}
@@ -135,7 +136,7 @@ module _ (m : Multiplexer) (s : List ℕ) (c : Call) (v : ValidMultiplexer m) (l
       (λ own. let same = eqb-true c.client (slot_at m i).client own in
       rw (goes_to m s c v l i o (sym same)) (rw (slot_set m v i o.0 _) (own_marks i o c.kind (λ e. no_taking e same) line is)))
       (λ other. ap (λ (x : Slot). is_marked x.port.marks line) ((frame m s c v l).slots i (λ _ e. eqb-false c.client (slot_at m i).client other (sym e))) ∙ is)
-      (tested (eqb c.client (slot_at m i).client))
+      (cases_Bool (eqb c.client (slot_at m i).client))
 
 -- the slot that an opening takes was free
 opening_leaves : (m : Multiplexer) (s : List ℕ) (n : ℕ) (r : Rect) (i : ℕ) → Open m i → slot_at (open_call m s n r).state i ≡ slot_at m i

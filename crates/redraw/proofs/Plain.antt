@@ -7,7 +7,8 @@ use mathlib.Core.List.{List, [], ◌∷◌}
 use native.Mathlib.Omega.{arith}
 use lib.Dec.{ltb}
 use lib.ListN.{length}
-use Rattle.laws.proofs.Tests.{tested, either, by_test}
+use Rattle.std.proofs.lemmas.Bool.{cases_Bool}
+use Rattle.laws.proofs.Tests.{either, by_test}
 use Rattle.laws.specs.Bits.{bit, count_below}
 use Rattle.laws.proofs.Bits.{bit_none}
 use Rattle.rectangle.specs.Cells.{line_of}
@@ -88,7 +89,7 @@ none_counted = record { count = refl; above = λ line far. bit_none line }
 
 pub taken_counted : (p : Port) → ValidPort p → (s block : List ℕ) → CountsLines (marks_taken p s block).result
 unfolding marks_taken line_count
-taken_counted p v s block = record { count = refl; above = λ line far. beyond line far (tested (is_marked p.marks line)) }
+taken_counted p v s block = record { count = refl; above = λ line far. beyond line far (cases_Bool (is_marked p.marks line)) }
   where
     beyond : (line : ℕ) → 24 ≤ line → (is_marked p.marks line ≡ true) ⊎ (is_marked p.marks line ≡ false) → is_marked p.marks line ≡ false
     beyond line far (inl is) = let last = (v.marks line is).1 in let home = v.home.bottom_in in absurd (omega arith)

@@ -8,7 +8,8 @@ use lib.Dec.{ltb}
 use lib.ListN.{length, get_or}
 use lib.Seq.{ext_get_or}
 use Rattle.laws.specs.Tabulate.{tabulate, length_tabulate, get_or_tabulate}
-use Rattle.laws.proofs.Tests.{tested, not_both, by_test, or_first, or_second}
+use Rattle.std.proofs.lemmas.Bool.{cases_Bool, both_ways, or_left, or_right}
+use Rattle.laws.proofs.Tests.{by_test}
 use Rattle.rectangle.specs.declared.Rect.{Rect}
 use Rattle.rectangle.specs.Cells.{line_of}
 use Rattle.rectangle.proofs.Edits.{inside?}
@@ -47,10 +48,10 @@ module _ (p : Port) (v : ValidPort p) (s : List ℕ) (l : length s ≡ 1920) whe
   grows_write bytes = record {
     len = (stream_local p v bytes).len s l ∙ sym l;
     cells = λ k.
-        ⊎_elim (λ is. inr (stream_marks p v bytes (line_of k) ∙ or_second (is_marked p.marks (line_of k)) (stored_to (stream p bytes).edits (line_of k)) is))
+        ⊎_elim (λ is. inr (stream_marks p v bytes (line_of k) ∙ or_right (is_marked p.marks (line_of k)) (stored_to (stream p bytes).edits (line_of k)) is))
         (λ none. inl (cell_stays p.home v.home.right_in v.home.bottom_in (stream p bytes).edits (keeps_stream p v bytes).edits s l k none))
-        (tested (stored_to (stream p bytes).edits (line_of k)));
-    marks = λ line is. stream_marks p v bytes line ∙ or_first (is_marked p.marks line) (stored_to (stream p bytes).edits line) is;
+        (cases_Bool (stored_to (stream p bytes).edits (line_of k)));
+    marks = λ line is. stream_marks p v bytes line ∙ or_left (is_marked p.marks line) (stored_to (stream p bytes).edits line) is;
   }
 
   pub grows_return : (block : List ℕ) → Grows p s (block_returned p s block)
@@ -67,10 +68,10 @@ module _ (p : Port) (v : ValidPort p) (s : List ℕ) (l : length s ≡ 1920) whe
       (λ _. record {
         len = length_restored rect block s ∙ sym l;
         cells = λ k.
-            ⊎_elim (λ x. inr (marked_in_lem p.marks rect (line_of k) ∙ or_second (is_marked p.marks (line_of k)) (has_line rect (line_of k)) (has_line_lem rect k x)))
+            ⊎_elim (λ x. inr (marked_in_lem p.marks rect (line_of k) ∙ or_right (is_marked p.marks (line_of k)) (has_line rect (line_of k)) (has_line_lem rect k x)))
             (λ out. inl (restored_outside rect block s l k out))
             (inside? rect k);
-        marks = λ line is. marked_in_lem p.marks rect line ∙ or_first (is_marked p.marks line) (has_line rect line) is;
+        marks = λ line is. marked_in_lem p.marks rect line ∙ or_left (is_marked p.marks line) (has_line rect line) is;
       })
       (λ _. unchanged p s _ refl refl)
 
@@ -84,8 +85,8 @@ pub record Tracks (p : Port) (s : List ℕ) (r : CallReply Port) : Type 0 where
 
 tracks_counted : (p : Port) (s : List ℕ) (r : PortReply) → Grows p s r → Tracks p s (counted r)
 tracks_counted p s r g = record {
-  cells = λ k. ⊎_elim inl (λ is. inr (or_first (is_marked r.state.marks (line_of k)) (is_marked no_marks (line_of k)) is)) (g.cells k);
-  marks = λ line is. or_first (is_marked r.state.marks line) (is_marked no_marks line) (g.marks line is);
+  cells = λ k. ⊎_elim inl (λ is. inr (or_left (is_marked r.state.marks (line_of k)) (is_marked no_marks (line_of k)) is)) (g.cells k);
+  marks = λ line is. or_left (is_marked r.state.marks line) (is_marked no_marks line) (g.marks line is);
 }
 
 pub tracks_call : (p : Port) → ValidPort p → (kind : Kind) (s : List ℕ) → length s ≡ 1920 → Tracks p s (call_on_port kind p s)
@@ -93,7 +94,7 @@ unfolding marks_taken
 tracks_call p v (Write bytes) s l = tracks_counted p s (written p s bytes) (grows_write p v s l bytes)
 tracks_call p v (Return block) s l = tracks_counted p s (block_returned p s block) (grows_return p v s l block)
 tracks_call p v (Restore block) s l = tracks_counted p s (block_restored p s block) (grows_restore p v s l block)
-tracks_call p v Take s l = record { cells = λ k. inl refl; marks = λ line is. or_second (is_marked no_marks line) (is_marked p.marks line) is }
+tracks_call p v Take s l = record { cells = λ k. inl refl; marks = λ line is. or_right (is_marked no_marks line) (is_marked p.marks line) is }
 
 -- ---- a screen drawn anew
 pub redraws : (lines : ℕ → Bool) (s t : List ℕ) → length t ≡ 1920 → ((k : ℕ) → (get_or t k 0 ≡ get_or s k 0) ⊎ (lines (line_of k) ≡ true)) → redrawn lines s t ≡ t
@@ -102,7 +103,7 @@ redraws lines s t l same =
     ext_get_or 0 (tabulate 1920 cell) t (length_tabulate 1920 cell ∙ sym l) λ k h.
     let small : k < 1920 = rw (length_tabulate 1920 cell) at h in
     get_or_tabulate 1920 cell k small
-    ∙ by_test (λ (b : ℕ). b ≡ get_or t k 0) (lines (line_of k)) (λ _. refl) (λ off. ⊎_elim (λ e. sym e) (λ on. absurd (not_both on off)) (same k))
+    ∙ by_test (λ (b : ℕ). b ≡ get_or t k 0) (lines (line_of k)) (λ _. refl) (λ off. ⊎_elim (λ e. sym e) (λ on. absurd (both_ways _ off on)) (same k))
   where
     cell : ℕ → ℕ
     cell k = cond (lines (line_of k)) (get_or t k 0) (get_or s k 0)

@@ -5,7 +5,8 @@ use mathlib.Core.Path.{◌≡◌, sym, ap, ◌∙◌}
 use mathlib.Core.Bool.{Bool, cond, not}
 use mathlib.Core.Logic.{◌⊎◌, inl, inr, ⊎_elim}
 use mathlib.Core.List.{List, [], ◌∷◌}
-use Rattle.laws.proofs.Tests.{tested, not_both, by_test, Decides}
+use Rattle.std.proofs.lemmas.Bool.{cases_Bool, both_ways}
+use Rattle.laws.proofs.Tests.{by_test, Decides}
 use Rattle.reply.specs.Answers.{Each, Rising, Answers}
 
 -- the status of the first rule that applies, or that of a call that is done
@@ -23,16 +24,16 @@ spared n (later _ f) = f
 module _ {Status : Type 0} {done : Status} {applies : Status → Type 0} {A : Type 0} (f : A → Status) {x : Status} {xs : List Status} {t : Bool} {a b : A} where
   pub refused_if : Decides t (applies x) → f a ≡ x → ((applies x → ⊥) → First done applies (f b) xs) → First done applies (f (cond t a b)) (x ∷ xs)
   refused_if d e rest =
-      by_test (λ r. First done applies (f r) (x ∷ xs)) t (λ k. here (d.holds k) e) (λ k. let n : applies x → ⊥ = λ p. not_both (d.passes p) k in later n (rest n))
+      by_test (λ r. First done applies (f r) (x ∷ xs)) t (λ k. here (d.holds k) e) (λ k. let n : applies x → ⊥ = λ p. both_ways _ k (d.passes p) in later n (rest n))
 
   pub refused_unless : {P : Type 0} → Decides t P → ((P → ⊥) → applies x) → (P → applies x → ⊥) → f b ≡ x → (P → First done applies (f a) xs) → First done applies (f (cond t a b)) (x ∷ xs)
   refused_unless d to from e rest =
-      by_test (λ r. First done applies (f r) (x ∷ xs)) t (λ k. later (from (d.holds k)) (rest (d.holds k))) (λ k. here (to (λ p. not_both (d.passes p) k)) e)
+      by_test (λ r. First done applies (f r) (x ∷ xs)) t (λ k. later (from (d.holds k)) (rest (d.holds k))) (λ k. here (to (λ p. both_ways _ k (d.passes p))) e)
 
   -- .. of a test that is negated
   pub refused_not : {P : Type 0} → Decides t P → ((P → ⊥) → applies x) → (P → applies x → ⊥) → f b ≡ x → (P → First done applies (f a) xs) → First done applies (f (cond (not t) b a)) (x ∷ xs)
   refused_not d to from e rest =
-      ⊎_elim (λ k. rw k (later (from (d.holds k)) (rest (d.holds k)))) (λ k. rw k (here (to (λ p. not_both (d.passes p) k)) e)) (tested t)
+      ⊎_elim (λ k. rw k (later (from (d.holds k)) (rest (d.holds k)))) (λ k. rw k (here (to (λ p. both_ways _ k (d.passes p))) e)) (cases_Bool t)
 
 -- ---- each status exactly then
 module _ {Status : Type 0} (done : Status) (number : Status → ℕ) (zero_done : number done ≡ 0) (applies : Status → Type 0) (given : Status) where

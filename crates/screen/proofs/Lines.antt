@@ -14,7 +14,7 @@ use Rattle.rectangle.specs.Rectangles.{OnScreen, width_of}
 use Rattle.rectangle.specs.Edit.{origin, edited_cell, edited}
 use Rattle.rectangle.proofs.Edits.{Vacated, cell_outside, cell_vacated, cell_moved}
 use Rattle.rectangle.proofs.Local.{length_edited, edited_at}
-use Rattle.screen.specs.Rewrite.{Rewritten}
+use Rattle.screen.specs.Rewrite.{Rewritten, Relocated}
 use Rattle.screen.proofs.Rewrites.{ends, holds, wider, then_after, then_before}
 
 -- what an edit of the screen s leaves in a cell
@@ -29,23 +29,16 @@ module _ (r : Rect) (m : Motion) (fill : ℕ) (s : List ℕ) where
   outside : (i : ℕ) → (Inside r i → ⊥) → get_or s i 0 ≡ cell_of r m fill s i
   outside i out = sym (cell_outside r m fill (λ k. get_or s k 0) i out)
 
-  -- all lines are done; q is the rectangle as the loop has it
-  pub all_done : {t : List ℕ} {q : Rect} {past : ℕ} → q ≡ r → past ≡ r.bottom + 1 → length s ≡ 1920 → OnScreen r
-      → Done q m fill r.top past s t
+  -- all lines are done
+  pub all_done : {t : List ℕ} {past : ℕ} → past ≡ r.bottom + 1 → length s ≡ 1920 → OnScreen r
+      → Done r m fill r.top past s t
       → t ≡ edited r m fill s
-  all_done {t} is_q is_past len fits walk =
+  all_done {t} is_past len fits walk =
       ext_get_or 0 t _ (walk.len ∙ len ∙ sym (length_edited r m fill s))
       (λ i h. let small : i < 1920 = omega (arith, walk.len) in everywhere.run i (omega arith) small ∙ sym (edited_at r m fill s i small))
     where
       everywhere : Rewritten 0 1920 (cell_of r m fill s) s t
-      everywhere = wider (rw is_q at walk) (omega arith) (omega arith) (λ i p q. outside i (λ h. omega arith)) (λ i p q. outside i (λ h. omega arith))
-
--- the rectangle of columns left up to end in lines top to bottom, for a loop that has no more than these numbers
-abbrev pub box : ℕ → ℕ → ℕ → ℕ → Rect
-box left end top bottom = record { left = left; top = top; right = end - 1; bottom = bottom }
-
-pub box_of : (r : Rect) (end bottom : ℕ) → end ≡ r.right + 1 → bottom ≡ r.bottom → box r.left end r.top bottom ≡ r
-box_of r end bottom is_end is_bottom = let right : end - 1 ≡ r.right = omega arith in simp (right, is_bottom)
+      everywhere = wider walk (omega arith) (omega arith) (λ i p q. outside i (λ h. omega arith)) (λ i p q. outside i (λ h. omega arith))
 
 -- line l of the rectangle, whose cells there are a up to e
 module _ {r : Rect} (l : ℕ) (fits : OnScreen r) (top : r.top ≤ l) (bottom : l ≤ r.bottom) {a e : ℕ}
@@ -91,18 +84,18 @@ module _ {r : Rect} (l : ℕ) (fits : OnScreen r) (top : r.top ≤ l) (bottom : 
 
   -- a line of a scroll: a run moves the cells of the next line, or of the one before
   module _ {t u : List ℕ} where
-    pub up_line : Rewritten a e (λ i. get_or t (i + 80) 0) t u → l < r.bottom → Done r Up fill r.top l s t → Done r Up fill r.top (l + 1) s u
+    pub up_line : Relocated a e (λ i. i + 80 * (l + 1) - 80 * l) t u → l < r.bottom → Done r Up fill r.top l s t → Done r Up fill r.top (l + 1) s u
     unfolding origin
     up_line run within walk =
         below Up
-        (move_edit Up (omega arith) (omega arith) _ run (λ i h k. ((λ v. omega arith), refl, walk.high _ (omega arith))))
+        (move_edit Up (omega arith) (omega arith) _ run (λ i h k. ((λ v. omega arith), omega arith, walk.high _ (omega arith))))
         walk
 
-    pub down_line : Rewritten a e (λ i. get_or t (i - 80) 0) t u → r.top < l → (past : ℕ) → l < past → Done r Down fill (l + 1) past s t → Done r Down fill l past s u
+    pub down_line : (k : ℕ) → l ≡ k + 1 → Relocated a e (λ i. i + 80 * k - 80 * l) t u → r.top < l → (past : ℕ) → l < past → Done r Down fill (l + 1) past s t → Done r Down fill l past s u
     unfolding origin
-    down_line run within past x walk =
+    down_line k next run within past x walk =
         above Down
-        (move_edit Down (omega arith) (omega arith) _ run (λ i h k. ((λ v. omega arith), refl, walk.low _ (omega arith))))
+        (move_edit Down (omega arith) (omega arith) _ run (λ i h k. ((λ v. omega arith), omega arith, walk.low _ (omega arith))))
         past x walk
 
   -- a line of a shift: one run moves cells, and another, beside it, fills
@@ -144,7 +137,7 @@ module _ (r : Rect) (fits : OnScreen r) (wide : width_of r ≡ 80) (fill : ℕ) 
       → u ≡ edited r Up fill s
   unfolding origin
   up_at_once moves fills is_a is_e is_b is_d =
-      all_done r Up fill s refl refl size fits
+      all_done r Up fill s refl size fits
       (fill_below r.bottom fits (omega arith) (omega arith) (omega arith) (omega arith) fill s Up fills (λ i h. h)
       (ends (holds moves (λ i h k. sym (cell_moved r Up fill (λ j. get_or s j 0) i (search rules) (λ v. omega arith)))) is_a is_e))
 
@@ -157,6 +150,6 @@ module _ (r : Rect) (fits : OnScreen r) (wide : width_of r ≡ 80) (fill : ℕ) 
       → u ≡ edited r Down fill s
   unfolding origin
   down_at_once moves fills is_a is_e is_b is_d =
-      all_done r Down fill s refl refl size fits
+      all_done r Down fill s refl size fits
       (fill_above r.top fits (omega arith) (omega arith) (omega arith) (omega arith) fill s Down fills (λ i h. h) _ (omega arith)
       (ends (holds moves (λ i h k. sym (cell_moved r Down fill (λ j. get_or s j 0) i (search rules) (λ v. omega arith)))) (omega arith) (omega arith)))

@@ -1,13 +1,13 @@
 -- The laws of `Rewritten`: how a run of places starts, grows and joins another. Assumes nothing.
-use Prim.Native.Nat.{ℕ, ◌+◌, ◌-◌, ◌≤◌, ◌<◌}
-use mathlib.Core.Path.{◌≡◌, refl, sym, ap, ◌∙◌}
+use Prim.Native.Nat.{ℕ, ◌+◌, ◌≤◌, ◌<◌}
+use mathlib.Core.Path.{◌≡◌, refl, ◌∙◌}
 use mathlib.Core.Logic.{⊎_elim}
 use mathlib.Core.List.{List}
 use native.Mathlib.Omega.{arith}
 use lib.ListN.{length, get_or, set, length-set}
 use lib.Seq.{get_or-set_same, get_or-set_other}
-use Rattle.laws.proofs.Tests.{below?}
-use Rattle.screen.specs.Rewrite.{Rewritten, Copied}
+use Rattle.std.proofs.lemmas.Bool.{cases_lt}
+use Rattle.screen.specs.Rewrite.{Rewritten}
 
 -- nothing is done yet
 pub none : {a : ℕ} {f : ℕ → ℕ} {s : List ℕ} → Rewritten a a f s s
@@ -33,7 +33,7 @@ pub wider : {a p q e : ℕ} {f : ℕ → ℕ} {s t : List ℕ} → Rewritten p q
 wider {p = p} {q = q} r le ge before after =
     record {
       len = r.len;
-      run = λ i h k. ⊎_elim (λ x. r.low i x ∙ before i h x) (λ x. ⊎_elim (r.run i x) (λ y. r.high i y ∙ after i y k) (below? i q)) (below? i p);
+      run = λ i h k. ⊎_elim (λ x. r.low i x ∙ before i h x) (λ x. ⊎_elim (r.run i x) (λ y. r.high i y ∙ after i y k) (cases_lt i q)) (cases_lt i p);
       low = λ i h. r.low i (omega arith);
       high = λ i h. r.high i (omega arith);
     }
@@ -43,7 +43,7 @@ pub then_over : {a p b e : ℕ} {f : ℕ → ℕ} {s t u : List ℕ} → a ≤ p
 then_over {p = p} from meets ge r r' =
     record {
       len = r'.len ∙ r.len;
-      run = λ i h k. ⊎_elim (λ x. r'.low i x ∙ r.run i h (omega arith)) (λ x. r'.run i x k) (below? i p);
+      run = λ i h k. ⊎_elim (λ x. r'.low i x ∙ r.run i h (omega arith)) (λ x. r'.run i x k) (cases_lt i p);
       low = λ i h. r'.low i (omega arith) ∙ r.low i h;
       high = λ i h. r'.high i h ∙ r.high i (omega arith);
     }
@@ -55,7 +55,7 @@ pub then_before : {a b e : ℕ} {f : ℕ → ℕ} {s t u : List ℕ} → a ≤ b
 then_before {b = b} le ge r r' =
     record {
       len = r'.len ∙ r.len;
-      run = λ i h k. ⊎_elim (r'.run i h) (λ x. r'.high i x ∙ r.run i x k) (below? i b);
+      run = λ i h k. ⊎_elim (r'.run i h) (λ x. r'.high i x ∙ r.run i x k) (cases_lt i b);
       low = λ i h. r'.low i h ∙ r.low i (omega arith);
       high = λ i h. r'.high i (omega arith) ∙ r.high i h;
     }
@@ -70,23 +70,6 @@ stored f s b v bound same =
       high = λ i h. get_or-set_other s b i v 0 (omega arith);
     }
 
--- one place more, at the end or at the start
+-- one place more, at the end
 pub one_after : {a e v : ℕ} {f : ℕ → ℕ} {s t : List ℕ} → Rewritten a e f s t → a ≤ e → e < length s → v ≡ f e → Rewritten a (e + 1) f s (set t e v)
 one_after r le bound same = then_after le (omega arith) r (stored _ _ _ _ (omega (arith, r.len)) same)
-
-pub one_before : {a e v : ℕ} {f : ℕ → ℕ} {s t : List ℕ} → Rewritten (a + 1) e f s t → a < e → a < length s → v ≡ f a → Rewritten a e f s (set t a v)
-one_before r le bound same = then_before (omega arith) (omega arith) r (stored _ _ _ _ (omega (arith, r.len)) same)
-
--- one byte more is copied
-pub one_copied : (source : List ℕ) (from at count : ℕ) {s t : List ℕ} → Copied source from at count s t → at + count < length s
-    → Copied source from at (count + 1) s (set t (at + count) (get_or source (from + count) 0))
-one_copied source from at count run h =
-    let place : at + count - at + from ≡ from + count = omega arith in
-    ends (one_after run (omega arith) h (ap (λ i. get_or source i 0) (sym place))) refl (omega arith)
-
--- the places by other names
-pub copied_from : (source : List ℕ) (from other at count : ℕ) (s t : List ℕ) → from ≡ other → Copied source from at count s t → Copied source other at count s t
-copied_from source from other at count s t e run = rw (← e) run
-
-pub copied_to : (source : List ℕ) (from at other count : ℕ) (s t : List ℕ) → at ≡ other → Copied source from at count s t → Copied source from other count s t
-copied_to source from at other count s t e run = rw (← e) run

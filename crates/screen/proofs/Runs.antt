@@ -1,11 +1,12 @@
 -- The laws of `RunStored`: how a run of codes starts, and grows by one at its end. Assumes nothing.
-use Prim.Native.Nat.{ℕ, ◌+◌, ◌*◌, ◌≤◌, ◌<◌}
+use Prim.Native.Nat.{ℕ, ◌+◌, ◌*◌, ◌≤◌, ◌<◌, min}
 use mathlib.Core.Path.{◌≡◌, refl, sym, ◌∙◌}
 use mathlib.Core.List.{List, [], ◌∷◌, ◌++◌}
 use native.Mathlib.Nat.{add-zero}
+use native.Mathlib.Numerals.{add-one}
 use native.Mathlib.Omega.{arith}
-use lib.ListN.{length, get_or, take, drop, set}
-use Rattle.laws.proofs.Lists.{one_taken, taken_length}
+use lib.ListN.{length, get_or, take, set}
+use lib.Seq.{take-suc, length-take-le, take-take}
 use Rattle.rectangle.specs.declared.Motion.TheVariants.{Clear}
 use Rattle.rectangle.specs.Rectangles.{cell_at}
 use Rattle.rectangle.specs.Edit.{edited}
@@ -28,31 +29,39 @@ stored_append mode column line (d ∷ cs) c s =
     rw (← place) (stored_append mode (column + 1) line cs c _)
 
 -- no code yet
-pub none_stored : (mode : Mode) (column line room : ℕ) (bytes : List ℕ) (from : ℕ) (s : List ℕ) → from ≤ length bytes
-    → RunStored mode column line room bytes from 0 s s
+pub none_stored : (mode : Mode) (column line room : ℕ) (codes s : List ℕ) → RunStored mode column line room codes 0 s s
 unfolding stored_run
-none_stored mode column line room bytes from s h = record { fits = omega arith; within = omega arith; printing = tt; cells = refl }
+none_stored mode column line room codes s = record { fits = omega arith; within = omega arith; printing = tt; cells = refl }
 
 -- one code more, which is stored as byte in the cell at index
-pub one_stored : {mode : Mode} {column line room : ℕ} {bytes : List ℕ} {from n : ℕ} {s t : List ℕ} {index byte : ℕ}
-    → RunStored mode column line room bytes from n s t
+pub one_stored : {mode : Mode} {column line room : ℕ} {codes : List ℕ} {n : ℕ} {s t : List ℕ} {index byte : ℕ}
+    → RunStored mode column line room codes n s t
     → column + room ≤ 80
     → line ≤ 23
     → length t ≡ 1920
     → n < room
-    → from + n < length bytes
-    → Printing (get_or bytes (from + n) 0)
+    → n < length codes
+    → Printing (get_or codes n 0)
     → index ≡ 80 * line + (column + n)
-    → byte ≡ stored_byte mode (get_or bytes (from + n) 0)
-    → RunStored mode column line room bytes from (n + 1) s (set t index byte)
-one_stored {mode} {column} {line} {room} {bytes} {from} {n} {s} {t} {index} {byte} run across down len less inside prints at is_byte_lem =
-    let cs : List ℕ = take n (drop from bytes) in
-    let code : ℕ = get_or bytes (from + n) 0 in
-    let more = one_taken bytes from n inside in
-    let place : n ≡ length cs = sym (taken_length bytes from n run.within) in
+    → byte ≡ stored_byte mode (get_or codes n 0)
+    → RunStored mode column line room codes (n + 1) s (set t index byte)
+one_stored {mode} {column} {line} {room} {codes} {n} {s} {t} {index} {byte} run across down len less inside prints at is_byte_lem =
+    let cs : List ℕ = take n codes in
+    let code : ℕ = get_or codes n 0 in
+    let more : take (n + 1) codes ≡ cs ++ (code ∷ []) = rw add-one (take-suc codes n 0 inside) in
+    let place : n ≡ length cs = sym (length-take-le n codes run.within) in
     record {
       fits = omega arith;
       within = omega arith;
       printing = rw more (printing_append cs code run.printing prints);
       cells = rw (more, stored_append) (stores_cell (column + n) line byte t (omega arith) down len at ∙ (λ i. edited (cell_at (column + place i) line) Clear (is_byte_lem i) (run.cells i)));
     }
+
+-- a run of the first codes, as many as there is room for, is one of them all
+pub more_room : {mode : Mode} {column line most room : ℕ} {codes : List ℕ} {n : ℕ} {s t : List ℕ} → most ≡ min room (length codes)
+    → RunStored mode column line (length (take most codes)) (take most codes) n s t
+    → RunStored mode column line room codes n s t
+more_room {most = most} {codes = codes} {n = n} is_most run =
+    let size = length-take-le most codes (omega arith) in
+    let same : take n (take most codes) ≡ take n codes = take-take n most codes (omega arith) in
+    record { fits = omega arith; within = omega arith; printing = rw same at run.printing; cells = rw same at run.cells }

@@ -1,5 +1,5 @@
 -- A run of printing codes that is stored in one line. Assumes nothing.
-use Rattle.std.specs.Prelude.{ℕ, ◌+◌, ◌≤◌, ◌≡◌, List, [], ◌∷◌, length, take, drop}
+use Rattle.std.specs.Prelude.{ℕ, ◌+◌, ◌≤◌, ◌≡◌, List, [], ◌∷◌, length, take}
 use Rattle.rectangle.specs.declared.Motion.TheVariants.{Clear}
 use Rattle.rectangle.specs.Rectangles.{cell_at}
 use Rattle.rectangle.specs.Edit.{edited}
@@ -16,9 +16,9 @@ unfoldable pub stored_run : Mode → ℕ → ℕ → List ℕ → List ℕ → L
 stored_run mode column line [] s = s
 stored_run mode column line (c ∷ cs) s = stored_run mode (column + 1) line cs (edited (cell_at column line) Clear (stored_byte mode c) s)
 
--- n bytes from place from on are printing codes, no more of them than there is room for, and t is s with them stored
-pub record RunStored (mode : Mode) (column line room : ℕ) (bytes : List ℕ) (from n : ℕ) (s t : List ℕ) : Type 0 where
+-- the first n codes are printing codes, no more of them than there is room for, and t is s with them stored
+pub record RunStored (mode : Mode) (column line room : ℕ) (codes : List ℕ) (n : ℕ) (s t : List ℕ) : Type 0 where
   pub fits : n ≤ room
-  pub within : from + n ≤ length bytes
-  pub printing : AllPrinting (take n (drop from bytes))
-  pub cells : t ≡ stored_run mode column line (take n (drop from bytes)) s
+  pub within : n ≤ length codes
+  pub printing : AllPrinting (take n codes)
+  pub cells : t ≡ stored_run mode column line (take n codes) s

@@ -1,11 +1,10 @@
 -- Bytes that are fed to a session in several calls are fed in one write of them all, by the cut law. Assumes nothing.
-use Rattle.std.proofs.Common.{◌≡◌, ℕ, ◌+◌, ◌-◌, ◌%◌, ◌^◌, ◌<◌, ◌≤◌, min, List, [], ◌∷◌, ◌++◌, length, get_or, take, drop, sym, refl, ap, ◌∙◌, subst, add_assoc, arith, length-take-le, take_all, take-add}
+use Rattle.std.proofs.Common.{◌≡◌, ℕ, ◌+◌, ◌%◌, ◌^◌, ◌<◌, ◌≤◌, List, [], ◌∷◌, ◌++◌, length, get_or, drop, sym, refl, ap, ◌∙◌, subst, add_assoc, append_assoc, append-nil, length-append, length-drop, add-one, arith}
+use Rattle.std.proofs.Math.Seq.{drop-cons}
 use native.Mathlib.Nat.{mod-add-mod}
-use Rattle.laws.proofs.Lists.{alone_taken}
 use Rattle.port.specs.declared.Port.{Port}
 use Rattle.reply.specs.declared.Status.{Status}
 use Rattle.reply.specs.Reply.{Replies}
-use Rattle.calls.specs.declared.Answer.{Answer}
 use Rattle.calls.specs.Calls.{PortReply}
 use Rattle.console.specs.Calls.{write_call}
 use Rattle.console.proofs.Cut.{write_cut}
@@ -13,9 +12,9 @@ use Rattle.session.specs.declared.Session.{Session}
 use Rattle.session.specs.Session.{after, Fed, FedIfAny}
 
 -- a call that replied as a plain write does
-pub fed : (at next : Session) (s bytes t : List ℕ) (a : Answer) → Replies (write_call at.port s bytes) a.status a.port a.count t bytes → next ≡ after at a.status a.port a.count
+fed : (at next : Session) (s bytes t : List ℕ) {status : Status} {port : Port} {count : ℕ} → Replies (write_call at.port s bytes) status port count t bytes → next ≡ after at status port count
     → Fed at s bytes next t
-fed at next s bytes t a r e = record { session = rw (r.status_is, r.state_is, r.result_is) at e; cells = r.cells }
+fed at next s bytes t r e = record { session = rw (r.status_is, r.state_is, r.result_is) at e; cells = r.cells }
 
 same_after : {x y : Status} {p q : Port} {m n : ℕ} → x ≡ y → p ≡ q → m ≡ n → ◌≡◌ {A = Session} (record { port = p; bells = m; status = x }) (record { port = q; bells = n; status = y })
 same_after e f g = rw (e, f, g)
@@ -63,46 +62,45 @@ fed_some : (at next : Session) (s bytes t : List ℕ) → 0 < length bytes → F
 fed_some at next s [] t some f = absurd (omega arith)
 fed_some at next s (b ∷ bs) t some f = f
 
--- the bytes up to place i are fed, and a piece of n bytes after them: those up to its end are
-piece_fed : (at mid next : Session) (s bytes s₁ t : List ℕ) (i n : ℕ) → 0 < n → i + n ≤ length bytes → FedIfAny at s (take i bytes) mid s₁ → Fed mid s₁ (take n (drop i bytes)) next t
-    → FedIfAny at s (take (i + n) bytes) next t
-piece_fed at mid next s bytes s₁ t i n some fits f g =
-    some_fed at next s (take (i + n) bytes) t (let k = length-take-le (i + n) bytes fits in omega arith)
-    (subst (λ (x : List ℕ). Fed at s x next t) (sym (take-add i n bytes)) (fed_next at mid next s (take i bytes) s₁ (take n (drop i bytes)) t f g))
+none_left : (front rest : List ℕ) → length rest ≡ 0 → front ≡ front ++ rest
+none_left front [] none = sym (append-nil front)
+none_left front (b ∷ bs) none = absurd (omega arith)
 
--- ---- the loops: of bytes those up to place i are fed, and the session that was at is mid, on the cells s₁
-pub record Feeding (at : Session) (s bytes : List ℕ) (i : ℕ) (mid : Session) (s₁ : List ℕ) : Type 0 where
-  pub within : i ≤ length bytes
+-- ---- the loops: of bytes those in front of `rest` are fed, and the session that was at is mid, on the cells s₁
+pub record Feeding (at : Session) (s bytes rest : List ℕ) (mid : Session) (s₁ : List ℕ) : Type 0 where
+  pub front : List ℕ
+  pub whole : bytes ≡ front ++ rest
   pub len : length s₁ ≡ length s
-  pub fed_so_far : FedIfAny at s (take i bytes) mid s₁
+  pub fed_so_far : FedIfAny at s front mid s₁
 
 module _ (at : Session) (s bytes : List ℕ) where
-  pub feeding_starts : Feeding at s bytes 0 at s
-  feeding_starts = record { within = omega arith; len = refl; fed_so_far = (refl, refl) }
+  pub feeding_starts : Feeding at s bytes bytes at s
+  feeding_starts = record { front = []; whole = refl; len = refl; fed_so_far = (refl, refl) }
 
-  module _ {i : ℕ} {mid : Session} {s₁ : List ℕ} (r : Feeding at s bytes i mid s₁) where
-    more_fed : (n : ℕ) (next : Session) (t : List ℕ) → 0 < n → i + n ≤ length bytes → length t ≡ length s₁ → Fed mid s₁ (take n (drop i bytes)) next t → Feeding at s bytes (i + n) next t
-    more_fed n next t some fits len f = record { within = fits; len = len ∙ r.len; fed_so_far = piece_fed at mid next s bytes s₁ t i n some fits r.fed_so_far f }
-
-    -- a piece more; the code names it by its start and its end
-    pub piece_more : (size n : ℕ) (next : Session) (t : List ℕ) → i < length bytes → 0 < size → n ≡ min size (length bytes - i) → length t ≡ length s₁
-        → Fed mid s₁ (take (i + n - i) (drop i bytes)) next t
-        → Feeding at s bytes (i + n) next t
-    piece_more size n next t more some is len f =
-        let same : i + n - i ≡ n = omega arith in
-        more_fed n next t (omega arith) (omega arith) len (subst (λ (k : ℕ). Fed mid s₁ (take k (drop i bytes)) next t) same f)
-
-    -- a byte more
-    pub byte_more : (a : Answer) (next : Session) (t : List ℕ) → i < length bytes → length t ≡ length s₁
-        → Replies (write_call mid.port s₁ (get_or bytes i 0 ∷ [])) a.status a.port a.count t (get_or bytes i 0 ∷ []) → next ≡ after mid a.status a.port a.count
-        → Feeding at s bytes (i + 1) next t
-    byte_more a next t more len h e =
-        more_fed 1 next t (omega arith) (omega arith) len
-        (subst (λ (x : List ℕ). Fed mid s₁ x next t) (sym (alone_taken bytes i more)) (fed mid next s₁ (get_or bytes i 0 ∷ []) t a h e))
+  module _ {rest : List ℕ} {mid : Session} {s₁ : List ℕ} (r : Feeding at s bytes rest mid s₁) where
+    -- a piece more
+    pub piece_more : (piece left : List ℕ) (next : Session) (t : List ℕ) → 0 < length piece → rest ≡ piece ++ left → length t ≡ length s₁ → Fed mid s₁ piece next t → Feeding at s bytes left next t
+    piece_more piece left next t some is len f = record {
+      front = r.front ++ piece;
+      whole = r.whole ∙ ap (λ (x : List ℕ). r.front ++ x) is ∙ sym (append_assoc r.front piece left);
+      len = len ∙ r.len;
+      fed_so_far = some_fed at next s (r.front ++ piece) t (simp length-append (omega arith)) (fed_next at mid next s r.front s₁ piece t r.fed_so_far f);
+    }
 
     -- none is left
-    pub bytes_end : length bytes ≤ i → FedIfAny at s bytes mid s₁
-    bytes_end all = subst (λ (x : List ℕ). FedIfAny at s x mid s₁) (take_all i bytes all) r.fed_so_far
+    pub bytes_end : length rest ≡ 0 → FedIfAny at s bytes mid s₁
+    bytes_end none = subst (λ (x : List ℕ). FedIfAny at s x mid s₁) (none_left r.front rest none ∙ sym r.whole) r.fed_so_far
 
-    pub pieces_end : (length bytes ≡ 0 → ⊥) → length bytes ≤ i → Fed at s bytes mid s₁
-    pieces_end some all = fed_some at mid s bytes s₁ (omega arith) (bytes_end all)
+    pub pieces_end : 0 < length bytes → length rest ≡ 0 → Fed at s bytes mid s₁
+    pieces_end some none = fed_some at mid s bytes s₁ some (bytes_end none)
+
+  -- byte after byte: none is left
+  pub bytes_over : {i : ℕ} {mid : Session} {s₁ : List ℕ} → Feeding at s bytes (drop i bytes) mid s₁ → length bytes ≤ i → FedIfAny at s bytes mid s₁
+  bytes_over {i} r over = bytes_end r (simp length-drop (omega arith))
+
+  -- a byte more
+  pub byte_more : {i : ℕ} {mid : Session} {s₁ : List ℕ} → Feeding at s bytes (drop i bytes) mid s₁ → {status : Status} {port : Port} {count : ℕ} (next : Session) (t : List ℕ) → i < length bytes → length t ≡ length s₁
+      → Replies (write_call mid.port s₁ (get_or bytes i 0 ∷ [])) status port count t (get_or bytes i 0 ∷ []) → next ≡ after mid status port count
+      → Feeding at s bytes (drop (i + 1) bytes) next t
+  byte_more {i} {mid} {s₁} r next t more len h e =
+      piece_more r (get_or bytes i 0 ∷ []) (drop (i + 1) bytes) next t (omega arith) (rw add-one (drop-cons bytes i 0 more)) len (fed mid next s₁ (get_or bytes i 0 ∷ []) t h e)

@@ -1,3 +1,3 @@
--- `Feeding`: bytes fed in several calls are one write. `Answers`: bytes stored to a slice, and a count that fits one.
+-- `Feeding`: bytes fed in several calls are one write. `Taken`: a count that fits a byte.
 mod Feeding
-mod Answers
+mod Taken

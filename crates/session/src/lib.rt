@@ -3,7 +3,7 @@
 
 pub mod answer;
 
-ghost use Rattle.std.specs.Prelude.{◌≡◌, ◌<◌, min};
+ghost use Rattle.std.specs.Prelude.{◌≡◌, ◌<◌};
 ghost use Rattle.session.specs.Session as rules;
 
 use calls::Answer;
@@ -11,7 +11,7 @@ use console::{fresh_console, put_byte_by_value, write};
 use port::Port;
 use reply::Status;
 
-// The status is that of the last call, and Done before the first. There are at most as many bells as bytes, so the sum never wraps.
+// A status beside the rest, as an answer has it (`Status`): that of the last call, and Done before the first. There are at most as many bells as bytes, so the sum never wraps.
 #[derive(Clone, Copy)]
 pub struct Session {
     pub port: Port,
@@ -31,14 +31,12 @@ pub fn fresh_session() -> Session
 
 // The session after a call.
 fn after(at: Session, answer: Answer) -> Session
-    ensures { result ≡ rules.after at answer.status answer.port answer.count }
+    ensures { result ≡ rules.after at answer.status answer.state answer.count }
 {
-    let port = answer.port;
-    let status = answer.status;
     Session {
-        port,
-        bells: std::num::wrapping_add_u64(at.bells, answer.count as u64),
-        status,
+        port: answer.state,
+        bells: at.bells.wrapping_add(answer.count as u64),
+        status: answer.status,
     }
 }
 
@@ -49,26 +47,17 @@ pub fn feed(screen: &mut [u8], at: Session, bytes: &[u8]) -> Session
     after(at, write(at.port, screen, bytes))
 }
 
-fn min(a: usize, b: usize) -> usize
-    ensures { result ≡ min a b }
-{
-    if a < b { a } else { b }
-}
-
 // The bytes in writes of at most size bytes. No bytes are one empty write, which is judged as any other.
 pub fn feed_in_pieces(screen: &mut [u8], at: Session, bytes: &[u8], size: usize) -> Session
     requires { 0 < size }
     ensures { rules.Fed at screen.old bytes.now result screen.new }
 {
-    if bytes.len() == 0 {
+    if bytes.is_empty() {
         return feed(screen, at, bytes);
     }
     let mut now = at;
-    let mut start = 0;
-    while start < bytes.len() {
-        let end = start + min(size, bytes.len() - start);
-        now = feed(screen, now, &bytes[start..end]);
-        start = end;
+    for piece in bytes.chunks(size) {
+        now = feed(screen, now, piece);
     }
     now
 }
@@ -78,8 +67,8 @@ pub fn feed_bytewise(screen: &mut [u8], at: Session, bytes: &[u8]) -> Session
     ensures { rules.FedIfAny at screen.old bytes.now result screen.new }
 {
     let mut now = at;
-    for i in 0..bytes.len() {
-        now = after(now, put_byte_by_value(now.port, screen, bytes[i]));
+    for &byte in bytes {
+        now = after(now, put_byte_by_value(now.port, screen, byte));
     }
     now
 }

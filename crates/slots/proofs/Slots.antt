@@ -1,25 +1,25 @@
 -- Which slot a client has, and a multiplexer with another slot in a place: what reads as before, and when it is valid again. Assumes nothing.
 use Prim.Native.Nat.{ℕ, suc, ◌<◌}
 use native.Mathlib.Omega.{arith}
-use mathlib.Core.Path.{◌≡◌, refl, sym, ap, ◌∙◌, subst}
+use mathlib.Core.Path.{◌≡◌, refl, sym, ◌∙◌, subst}
 use mathlib.Core.Bool.{false}
 use mathlib.Core.Logic.{◌⊎◌, inl, inr, ⊎_elim}
 use lib.Dec.{eqb}
 use lib.ListN.{length-set}
 use lib.Seq.{get_or-set_same, get_or-set_other}
 use borrow.Author.Tests.{eqb-true, eqb-false}
-use Rattle.laws.proofs.Tests.{tested, not_both, below?, by_test, Decides, decides_eq, decides_lt, decides_both, decides_as, decides_not}
+use Rattle.std.proofs.lemmas.Bool.{cases_Bool, both_ways, cases_lt}
+use Rattle.laws.proofs.Tests.{by_test, Decides, decides_eq, decides_lt, decides_both, decides_as, decides_not}
 use Rattle.rectangle.specs.Rectangles.{Legal, Apart}
 use Rattle.rectangle.specs.declared.Rect.{Rect}
 use Rattle.marks.specs.Marks.{no_marks, marked_in}
 use Rattle.marks.proofs.Marking.{none_within, rect_within}
-use Rattle.port.specs.declared.Port.{Port}
-use Rattle.port.specs.State.{with_marks, fresh_port}
+use Rattle.port.specs.State.{fresh_port}
 use Rattle.port.specs.Valid.{ValidPort}
 use Rattle.port.proofs.Validity.{fresh_valid, marks_valid}
 use Rattle.slots.specs.declared.Slot.{Slot}
 use Rattle.slots.specs.declared.Multiplexer.{Multiplexer}
-use Rattle.slots.specs.State.{new_slot, no_slot, fresh_slot, slot_at, pane, Open, slot_of, has_client, with_slot, Closed}
+use Rattle.slots.specs.State.{no_slot, fresh_slot, slot_at, pane, Open, slot_of, has_client, with_slot, Closed}
 use Rattle.slots.specs.Valid.{ValidMultiplexer}
 use Rattle.slots.proofs.Validity.{SlotFacts}
 
@@ -32,7 +32,7 @@ module _ (m : Multiplexer) (n : ℕ) where
   before : (k : ℕ) → Before k → eqb (slot_at m k).client n ≡ false → Before (suc k)
   unfolding Before
   before k none t i h e =
-      ⊎_elim (λ l. none i l e) (λ l. eqb-false _ _ t (subst (λ (x : ℕ). (slot_at m x).client ≡ n) (omega arith) e)) (below? i k)
+      ⊎_elim (λ l. none i l e) (λ l. eqb-false _ _ t (subst (λ (x : ℕ). (slot_at m x).client ≡ n) (omega arith) e)) (cases_lt i k)
 
   -- place k is of the first slot with the number, or no slot has it
   Looked : ℕ → Type 0
@@ -73,7 +73,7 @@ module _ (m : Multiplexer) (n : ℕ) where
       (λ k. (λ e. k.1.1 (k.2 ∙ e), slot_found k.0 k.1.0 k.2))
 
   pub client? : ((i : ℕ) × Open m i × ((slot_at m i).client ≡ n)) ⊎ Closed m n
-  client? = ⊎_elim (λ e. inl (decides_client.holds e)) (λ e. inr (λ i o k. not_both (decides_client.passes (i, o, k)) e)) (tested (has_client m n))
+  client? = ⊎_elim (λ e. inl (decides_client.holds e)) (λ e. inr (λ i o k. both_ways _ e (decides_client.passes (i, o, k)))) (cases_Bool (has_client m n))
 
 -- an open slot is the slot of its client
 pub slot_open : (m : Multiplexer) → ValidMultiplexer m → (i n : ℕ) → Open m i → (slot_at m i).client ≡ n → slot_of m n ≡ i
@@ -92,7 +92,7 @@ module _ (m : Multiplexer) (v : ValidMultiplexer m) (i : ℕ) (small : i < 4) (x
 
   pub at_place : (j : ℕ) → ((j ≡ i) × (slot_at (with_slot m i x) j ≡ x)) ⊎ ((j ≡ i → ⊥) × (slot_at (with_slot m i x) j ≡ slot_at m j))
   at_place j =
-      ⊎_elim (λ t. let e = eqb-true j i t in inl (e, rw e slot_set)) (λ t. inr (eqb-false j i t, slot_kept j (eqb-false j i t))) (tested (eqb j i))
+      ⊎_elim (λ t. let e = eqb-true j i t in inl (e, rw e slot_set)) (λ t. inr (eqb-false j i t, slot_kept j (eqb-false j i t))) (cases_Bool (eqb j i))
 
   -- valid again: the new slot is valid, and where it is open, no other open slot has its client or shares a cell with it
   pub set_valid : SlotFacts x → ((j : ℕ) → (j ≡ i → ⊥) → Open m j → (x.client ≡ 0 → ⊥) → ((slot_at m j).client ≡ x.client → ⊥) × Apart (pane m j) x.port.home) → ValidMultiplexer (with_slot m i x)
@@ -124,8 +124,5 @@ module _ (m : Multiplexer) (v : ValidMultiplexer m) (i : ℕ) (small : i < 4) (x
       }
 
 -- ---- a slot just opened
-pub opened : (n : ℕ) (r : Rect) {marks : ℕ} {f p : Port} {x : Slot} → marks ≡ marked_in no_marks r → f ≡ fresh_port r → p ≡ with_marks f marks → x ≡ new_slot n p → x ≡ fresh_slot n r
-opened n r lines fresh at new = new ∙ ap (new_slot n) (at ∙ (λ i. with_marks (fresh i) (lines i)))
-
 pub opened_valid : (n : ℕ) (r : Rect) → Legal r → ValidPort (fresh_slot n r).port
 opened_valid n r l = marks_valid (fresh_port r) (fresh_valid r l) (marked_in no_marks r) (rect_within no_marks r r (omega arith) (omega arith) (none_within r))

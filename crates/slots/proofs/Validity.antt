@@ -5,9 +5,9 @@ use mathlib.Core.Path.{◌≡◌, refl, sym}
 use mathlib.Core.Bool.{Bool, ◌&&◌}
 use mathlib.Core.Logic.{inl, inr, ⊎_elim}
 use lib.Dec.{eqb}
-use lib.ListN.{length}
 use borrow.Author.Tests.{eqb-true, eqb-false, eq-eqb, ne_eqb}
-use Rattle.laws.proofs.Tests.{below?, Decides, decides_eq, decides_both, decides_if, decides_as, decides_four, decides_else, decides_either, decides_not}
+use Rattle.std.proofs.lemmas.Bool.{cases_lt}
+use Rattle.laws.proofs.Tests.{Decides, decides_eq, decides_both, decides_if, decides_as, decides_four, decides_else, decides_either, decides_not}
 use Rattle.rectangle.specs.Rectangles.{Apart}
 use Rattle.rectangle.proofs.Overlaps.{Overlap, decides_overlap, overlap_apart, apart_overlap}
 use Rattle.port.specs.Valid.{ValidPort, ZeroPort}
@@ -77,15 +77,15 @@ module _ (m : Multiplexer) where
   unfolding Pairs
   different k i j o u e =
       ⊎_elim (λ h. absurd ((k i j h u.0 o.1 u.1).0 e))
-      (λ h. ⊎_elim (λ l. absurd ((k j i l o.0 u.1 o.1).0 (sym e))) (λ l. omega arith) (below? j i))
-      (below? i j)
+      (λ h. ⊎_elim (λ l. absurd ((k j i l o.0 u.1 o.1).0 (sym e))) (λ l. omega arith) (cases_lt j i))
+      (cases_lt i j)
 
   apart : Pairs m → (i j : ℕ) → Open m i → Open m j → (i ≡ j → ⊥) → Apart (pane m i) (pane m j)
   unfolding Pairs
   apart k i j o u n =
       ⊎_elim (λ h. overlap_apart (k i j h u.0 o.1 u.1).1)
       (λ h c a b. overlap_apart (k j i (omega arith) o.0 u.1 o.1).1 c b a)
-      (below? i j)
+      (cases_lt i j)
 
   pairs : ValidMultiplexer m → Pairs m
   unfolding Pairs
@@ -109,8 +109,3 @@ decides_multiplexer m =
       free = λ i z. (k.1.0 i z.0).0 z.1;
     })
     (λ v. (v.four, (λ i h. (λ e. v.free i (h, e), λ n. v.ports i (h, n)), pairs m v)))
-
--- an array of four is valid where its slots are
-pub four_valid : (m : Multiplexer) → length m.slots ≡ 4 → valid_slots m ≡ valid_multiplexer m
-unfolding valid_multiplexer
-four_valid m e = rw (eq-eqb (length m.slots) 4 e)

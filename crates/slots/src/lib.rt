@@ -2,33 +2,40 @@
 #![tactic(auto)]
 
 pub mod lookup;
+pub mod place;
 pub mod valid;
 
-ghost use Rattle.std.specs.Prelude.{◌≡◌, ◌<◌};
+ghost use Rattle.std.specs.Prelude.{◌≡◌};
 ghost use Rattle.rectangle.specs.Rectangles.{OnScreen};
-ghost use Rattle.slots.specs.State.{new_slot, fresh_slot, slot_at, with_slot, with_port};
+ghost use Rattle.slots.specs.State.{free_slot, fresh_slot, slot_at, with_slot, with_port};
 
 use marks::mark;
+use place::Place;
 use port::Port;
-use port::state::{fresh_port, with_marks};
+use port::state::{fresh_port, with_marks, zero_port};
 use rectangle::Rect;
 
 // A slot is the paper's seat, and client its bench number. Client 0: the slot is free, and every field is 0 or false.
-#[derive(Clone, Copy)]
+// The number stays a number, and no Option: paper 01 asks that every field of a free seat holds 0 or false (`free_slot`).
+#[derive(Clone, Copy, PartialEq, Eq, Debug)]
 pub struct Slot {
     pub client: u8,
     pub port: Port,
 }
 
-#[derive(Clone, Copy)]
+#[derive(Clone, Copy, PartialEq, Eq, Debug)]
 pub struct Multiplexer {
     pub slots: [Slot; 4],
 }
 
-pub fn new_slot(client: u8, port: Port) -> Slot
-    ensures { result ≡ new_slot client port }
+#[tactic(auto, unfolding(crate::specs::State::free_slot))]
+pub fn free_slot() -> Slot
+    ensures { result ≡ free_slot }
 {
-    Slot { client, port }
+    Slot {
+        client: 0,
+        port: zero_port(),
+    }
 }
 
 // A slot just opened: a fresh port whose home is the pane, all of whose lines are marked.
@@ -37,33 +44,31 @@ pub fn fresh_slot(client: u8, pane: Rect) -> Slot
     ensures { result ≡ fresh_slot client pane }
 {
     let marks = mark(0, pane.top, pane.bottom);
-    new_slot(client, with_marks(fresh_port(pane), marks))
+    Slot {
+        client,
+        port: with_marks(fresh_port(pane), marks),
+    }
 }
 
 // The port of a slot.
-pub fn port_at(m: Multiplexer, i: usize) -> Port
-    requires { i < 4 }
-    ensures { result ≡ (slot_at m i).port }
+pub fn port_at(m: Multiplexer, place: Place) -> Port
+    ensures { result ≡ (slot_at m place.index).port }
 {
-    let slot = m.slots[i];
-    slot.port
+    m.slots[place.index].port
 }
 
 // Another slot in a place.
-pub fn with_slot(m: Multiplexer, i: usize, slot: Slot) -> Multiplexer
-    requires { i < 4 }
-    ensures { result ≡ with_slot m i slot }
+pub fn with_slot(mut m: Multiplexer, place: Place, slot: Slot) -> Multiplexer
+    ensures { result ≡ with_slot m place.index slot }
 {
-    let mut slots = m.slots;
-    slots[i] = slot;
-    Multiplexer { slots }
+    m.slots[place.index] = slot;
+    m
 }
 
 // Another port in a slot.
-pub fn with_port(m: Multiplexer, i: usize, port: Port) -> Multiplexer
-    requires { i < 4 }
-    ensures { result ≡ with_port m i port }
+pub fn with_port(mut m: Multiplexer, place: Place, port: Port) -> Multiplexer
+    ensures { result ≡ with_port m place.index port }
 {
-    let slot = m.slots[i];
-    with_slot(m, i, new_slot(slot.client, port))
+    m.slots[place.index].port = port;
+    m
 }

@@ -2,48 +2,39 @@
 ghost use Rattle.std.specs.Prelude.{◌≡◌};
 ghost use Rattle.slots.specs.State.{slot_of, has_client};
 ghost use Rattle.slots.specs.Panes.{shares_pane, pane_shared};
+ghost use Rattle.slots.specs.Places.{number_of};
 
+use super::place::Place;
 use super::{Multiplexer, Slot};
 use rectangle::{Rect, shares_cell};
 
-// The place of a client's slot, or 4; that of 0 is the lowest free slot.
-pub fn slot_of(m: Multiplexer, client: u8) -> usize
-    ensures { result ≡ slot_of m client }
+// The place of a client's slot; that of 0 is the lowest free slot.
+#[tactic(auto, unfolding(crate::specs::State::slot_of))]
+pub fn slot_of(m: Multiplexer, client: u8) -> Option<Place>
+    ensures { number_of result ≡ slot_of m client }
 {
-    if m.slots[0].client == client {
-        return 0;
-    }
-    if m.slots[1].client == client {
-        return 1;
-    }
-    if m.slots[2].client == client {
-        return 2;
-    }
-    if m.slots[3].client == client {
-        return 3;
-    }
-    4
+    let index = m.slots.iter().position(|slot| slot.client == client)?;
+    Some(Place { index })
 }
 
 // Some open slot has this client; 0 never has one.
+#[tactic(auto, unfolding(crate::specs::State::has_client, crate::specs::State::slot_of))]
 pub fn has_client(m: Multiplexer, client: u8) -> bool
     ensures { result ≡ has_client m client }
 {
-    !(client == 0) & (slot_of(m, client) < 4)
+    (client != 0) & slot_of(m, client).is_some()
 }
 
 fn shares_pane(pane: Rect, slot: Slot) -> bool
     ensures { result ≡ shares_pane pane slot }
 {
-    let port = slot.port;
-    !(slot.client == 0) & shares_cell(port.home, pane)
+    slot.client != 0 && shares_cell(slot.port.home, pane)
 }
 
 // A pane shares a cell with an open one.
+#[tactic(auto, unfolding(crate::specs::Panes::pane_shared))]
 pub fn pane_shared(m: Multiplexer, pane: Rect) -> bool
     ensures { result ≡ pane_shared m pane }
 {
-    let slots = m.slots;
-    (shares_pane(pane, slots[0]) | shares_pane(pane, slots[1]))
-        | (shares_pane(pane, slots[2]) | shares_pane(pane, slots[3]))
+    m.slots.iter().any(|slot| shares_pane(pane, *slot))
 }

@@ -4,7 +4,7 @@ use multiplexer::Answer;
 use rectangle::Rect;
 use std::io;
 
-// A call's number and count, in decimal.
+// A call's number and count, in decimal. Each synopsis has its own, as each is shown whole.
 fn show(rt: &impl Print, answer: Answer) -> io::Result<()> {
     let number = reply::status_number(answer.status);
     let count = answer.count;
@@ -24,9 +24,9 @@ fn main(rt: HostRuntime) -> io::Result<()> {
     let opened = multiplexer::open(multiplexer::fresh_multiplexer(), &mut screen, 7, pane);
     show(&rt, opened)?;
     // Text and a bell: 0, done, and 1 bell.
-    let written = multiplexer::write(opened.multiplexer, &mut screen, 7, b"Hello\x07");
+    let written = multiplexer::write(opened.state, &mut screen, 7, b"Hello\x07");
     show(&rt, written)?;
     // Nobody is client 8: refused with 8, and nothing changes.
-    let refused = multiplexer::write(written.multiplexer, &mut screen, 8, b"Hello");
+    let refused = multiplexer::write(written.state, &mut screen, 8, b"Hello");
     show(&rt, refused)
 }

@@ -1,27 +1,23 @@
 -- What the codes with parameters compute, in the definitions' words. Assumes nothing.
-use Prim.Native.Nat.{ℕ, ◌+◌, ◌-◌, ◌≤◌, ◌<◌, min}
+use Prim.Native.Nat.{ℕ, ◌+◌, ◌-◌, ◌<◌, min}
 use mathlib.Core.Path.{◌≡◌, refl, sym, ap, ◌∙◌, subst}
 use mathlib.Core.Bool.{Bool, true, false, cond, ◌&&◌}
 use native.Mathlib.Omega.{arith}
 use lib.Dec.{leb, ltb}
-use borrow.Author.Tests.{leb-true, leb-false}
-use Rattle.laws.proofs.Tests.{by_test, and_left, and_right}
+use borrow.Author.Tests.{leb-false}
+use Rattle.laws.proofs.Tests.{by_test, and_left}
 use Rattle.rectangle.specs.declared.Edit.{Edit}
 use Rattle.rectangle.specs.declared.Motion.TheVariants.{Left}
-use Rattle.rectangle.specs.Rectangles.{OnScreen, rect_of}
+use Rattle.rectangle.specs.Rectangles.{rect_of, OnScreen}
 use Rattle.port.specs.declared.View.{View}
 use Rattle.port.specs.State.{cursor_at}
 use Rattle.port.specs.Effect.{becomes, move_edit}
-use Rattle.port.specs.Codes.{set_vertical, set_horizontal, goto_xy, in_offset_range, resize, print_spaces, dle_space_expansion}
+use Rattle.port.specs.Codes.{set_vertical, set_horizontal, goto_xy, resize, print_spaces, dle_space_expansion}
 use Rattle.view.specs.Place.{offset_from, space_count}
 
 -- $05: 256 is no byte, so the code takes from 255 and adds one
 pub back_by : {e : Edit} (v : View) (b : ℕ) → b < 256 → e ≡ move_edit v (Left (255 - b + 1)) → e ≡ move_edit v (Left (256 - b))
 back_by v b h p = p ∙ ap (λ (n : ℕ). move_edit v (Left n)) (omega arith)
-
--- $06 and $14: to go on from the first line or column by at most the room that is left is to stop at the last
-pub clamped : (low high n m : ℕ) → low ≤ high → m ≡ min n (high - low) → low + m ≡ min (low + n) high
-clamped low high n m h p = omega arith
 
 -- a cursor that is placed by a number is placed as the definition says: where the parameter is ignored, the view is as it was
 chosen_place : (v : View) (at : ℕ → View) (own other : ℕ) (t : Bool) → at own ≡ v → at (cond t own other) ≡ cond t v (at other)
@@ -39,12 +35,7 @@ column_placed v b x e p =
     let at : ℕ → View = λ n. cursor_at v n v.line in
     e ∙ ap at p ∙ chosen_place v at v.column (min (v.viewport.left + (b - 32)) v.viewport.right) (ltb b 32) refl
 
--- $02: 32 can be taken from a parameter that is in range
-pub offset_fits : (n : ℕ) (t : Bool) → t ≡ in_offset_range n → t ≡ true → 32 ≤ n
-unfolding in_offset_range
-offset_fits n t p h = leb-true 32 n (and_left (leb 32 n) (leb n 127) (sym p ∙ h))
-
--- $02: the four tests, and the four edges, that the calls returned stand for the definition's
+-- $02: the tests and the rectangle of what the code computes are the definition's
 pub same_tests : {t : Bool} (a b c d a' b' c' d' : Bool) → a ≡ a' → b ≡ b' → c ≡ c' → d ≡ d' → ((a && b) && (c && d)) ≡ t
     → ((a' && b') && (c' && d')) ≡ t
 same_tests a b c d a' b' c' d' p q r s e = cc
@@ -74,9 +65,6 @@ counted_none v b = none v.flags.dle
     none true e = let small : b < 32 = leb-false 32 b e in omega arith
     none false e = refl
 
-pub and_le : (t : Bool) (n b : ℕ) → (t && leb n b) ≡ true → n ≤ b
-and_le t n b e = leb-true n b (and_right t (leb n b) e)
-
 pub spaces_are : (v : View) (b : ℕ) → print_spaces (space_count v b) v ≡ dle_space_expansion v b
 unfolding dle_space_expansion print_spaces space_count
 spaces_are v b = chosen v.flags.dle
@@ -84,5 +72,3 @@ spaces_are v b = chosen v.flags.dle
     chosen : (t : Bool) → print_spaces (cond t (b - 32) 0) v ≡ cond t (print_spaces (b - 32) v) (becomes v)
     chosen true = refl
     chosen false = refl
-
-pub ruleset offsets = (offset_fits, and_left, and_right)

@@ -1,28 +1,28 @@
 // Codes that move the cursor and take no parameter, and how printing moves it.
+#![tactic(auto, using(crate::proofs::Plans::plans, crate::proofs::Moves::and_below), unfolding(port::specs::Codes::move_cursor_right, port::specs::Codes::backspace, port::specs::Codes::line_feed, port::specs::Codes::move_cursor_up, port::specs::Codes::carriage_return, port::specs::Codes::feed_if_lf, port::specs::Codes::advance))]
+
 ghost use Rattle.std.specs.Prelude.{◌≡◌};
 ghost use Rattle.port.specs.Codes.{move_cursor_right, backspace, line_feed, move_cursor_up, carriage_return, home_cursor, advance};
 ghost use Rattle.view.specs.Plan.{effect_of};
 
-use super::{Moved, move_edit, once, still};
+use super::{ViewPlan, move_edit, once, still};
 use port::View;
 use port::state::cursor_at;
 use rectangle::Motion;
 
 // $1C.
-pub fn move_cursor_right(v: View) -> Moved
+pub fn move_cursor_right(v: View) -> ViewPlan<1>
     ensures { effect_of result ≡ move_cursor_right v }
 {
-    let viewport = v.viewport;
-    let flags = v.flags;
-    if v.column < viewport.right {
+    if v.column < v.viewport.right {
         return still(cursor_at(v, v.column + 1, v.line));
     }
-    if flags.wrap & (v.line < viewport.bottom) {
-        return still(cursor_at(v, viewport.left, v.line + 1));
+    if v.flags.wrap & (v.line < v.viewport.bottom) {
+        return still(cursor_at(v, v.viewport.left, v.line + 1));
     }
-    if flags.wrap & flags.scroll {
+    if v.flags.wrap & v.flags.scroll {
         return once(
-            cursor_at(v, viewport.left, v.line),
+            cursor_at(v, v.viewport.left, v.line),
             move_edit(v, Motion::Up),
         );
     }
@@ -30,20 +30,18 @@ pub fn move_cursor_right(v: View) -> Moved
 }
 
 // $08.
-pub fn backspace(v: View) -> Moved
+pub fn backspace(v: View) -> ViewPlan<1>
     ensures { effect_of result ≡ backspace v }
 {
-    let viewport = v.viewport;
-    let flags = v.flags;
-    if viewport.left < v.column {
+    if v.viewport.left < v.column {
         return still(cursor_at(v, v.column - 1, v.line));
     }
-    if flags.wrap & (viewport.top < v.line) {
-        return still(cursor_at(v, viewport.right, v.line - 1));
+    if v.flags.wrap & (v.viewport.top < v.line) {
+        return still(cursor_at(v, v.viewport.right, v.line - 1));
     }
-    if flags.wrap & flags.scroll {
+    if v.flags.wrap & v.flags.scroll {
         return once(
-            cursor_at(v, viewport.right, v.line),
+            cursor_at(v, v.viewport.right, v.line),
             move_edit(v, Motion::Down),
         );
     }
@@ -51,43 +49,37 @@ pub fn backspace(v: View) -> Moved
 }
 
 // $0A.
-pub fn line_feed(v: View) -> Moved
+pub fn line_feed(v: View) -> ViewPlan<1>
     ensures { effect_of result ≡ line_feed v }
 {
-    let viewport = v.viewport;
-    let flags = v.flags;
-    if v.line < viewport.bottom {
+    if v.line < v.viewport.bottom {
         return still(cursor_at(v, v.column, v.line + 1));
     }
-    if flags.scroll {
+    if v.flags.scroll {
         return once(v, move_edit(v, Motion::Up));
     }
     still(v)
 }
 
 // $1F.
-pub fn move_cursor_up(v: View) -> Moved
+pub fn move_cursor_up(v: View) -> ViewPlan<1>
     ensures { effect_of result ≡ move_cursor_up v }
 {
-    let viewport = v.viewport;
-    let flags = v.flags;
-    if viewport.top < v.line {
+    if v.viewport.top < v.line {
         return still(cursor_at(v, v.column, v.line - 1));
     }
-    if flags.scroll {
+    if v.flags.scroll {
         return once(v, move_edit(v, Motion::Down));
     }
     still(v)
 }
 
 // $0D.
-pub fn carriage_return(v: View) -> Moved
+pub fn carriage_return(v: View) -> ViewPlan<1>
     ensures { effect_of result ≡ carriage_return v }
 {
-    let viewport = v.viewport;
-    let flags = v.flags;
-    let start = cursor_at(v, viewport.left, v.line);
-    if flags.lf {
+    let start = cursor_at(v, v.viewport.left, v.line);
+    if v.flags.lf {
         return line_feed(start);
     }
     still(start)
@@ -97,16 +89,14 @@ pub fn carriage_return(v: View) -> Moved
 pub fn home_cursor(v: View) -> View
     ensures { result ≡ home_cursor v }
 {
-    let viewport = v.viewport;
-    cursor_at(v, viewport.left, viewport.top)
+    cursor_at(v, v.viewport.left, v.viewport.top)
 }
 
 // What $1C does, if advance: what printing does after it stored a byte.
-pub fn advance(v: View) -> Moved
+pub fn advance(v: View) -> ViewPlan<1>
     ensures { effect_of result ≡ advance v }
 {
-    let flags = v.flags;
-    if flags.advance {
+    if v.flags.advance {
         return move_cursor_right(v);
     }
     still(v)

@@ -1,12 +1,12 @@
 // What each code of paper 01 does to a view, as a plan: the next view and the edits of the screen, at most two. Printing moves the cursor as a code does.
 // No function here sees a screen: what a port does next never depends on a cell.
-#![tactic(auto)]
+#![tactic(auto, using(crate::proofs::Bits::low_bit, crate::proofs::Places::counted, crate::proofs::Places::counted_none), unfolding(port::specs::Codes::mode_of))]
 
 pub mod cursor;
 pub mod erase;
 pub mod place;
 
-ghost use Rattle.std.specs.Prelude.{◌≡◌, min};
+ghost use Rattle.std.specs.Prelude.{◌≡◌};
 ghost use Rattle.port.specs.Effect.{fill_byte, move_edit};
 ghost use Rattle.port.specs.Codes.{mode_of, set_normal, set_inverse, enable_mousetext, disable_mousetext, set_cursor_movement, scroll_down, scroll_up};
 ghost use Rattle.view.specs.Plan.{effect_of, still, once, plan};
@@ -17,54 +17,39 @@ use port::state::{with_flags, with_modes};
 use port::{Flags, View};
 use rectangle::{Edit, Motion};
 
-// At most one edit.
-#[derive(Clone, Copy)]
-pub enum Change {
-    Nothing,
-    Draw(Edit),
-}
-
-// The next view, with at most one edit.
-#[derive(Clone, Copy)]
-pub struct Moved {
+// The next view, with at most N edits in their order. A plan of any view, and no type of valid ones: that its edits lie on the screen is a clause of what draws it (`AllOnScreen`).
+// A function for each code, though some differ in a constant: its contract is that code's definition.
+#[derive(Clone, Copy, PartialEq, Eq, Debug)]
+pub struct ViewPlan<const N: usize> {
     pub view: View,
-    pub change: Change,
+    pub edits: [Option<Edit>; N],
 }
 
-// The next view, with at most two edits in their order.
-#[derive(Clone, Copy)]
-pub struct ViewPlan {
-    pub view: View,
-    pub first: Change,
-    pub second: Change,
-}
-
-pub fn still(view: View) -> Moved
+pub fn still(view: View) -> ViewPlan<1>
     ensures { result ≡ still view }
 {
-    Moved {
+    ViewPlan {
         view,
-        change: Change::Nothing,
+        edits: [None],
     }
 }
 
-pub fn once(view: View, edit: Edit) -> Moved
+pub fn once(view: View, edit: Edit) -> ViewPlan<1>
     ensures { result ≡ once view edit }
 {
-    Moved {
+    ViewPlan {
         view,
-        change: Change::Draw(edit),
+        edits: [Some(edit)],
     }
 }
 
 // An edit, and perhaps another after it.
-pub fn plan(view: View, first: Edit, second: Change) -> ViewPlan
+pub fn plan(view: View, first: Edit, second: Option<Edit>) -> ViewPlan<2>
     ensures { result ≡ plan view first second }
 {
     ViewPlan {
         view,
-        first: Change::Draw(first),
-        second,
+        edits: [Some(first), second],
     }
 }
 
@@ -79,29 +64,25 @@ pub fn fill_byte(v: View) -> u8
 pub fn move_edit(v: View, motion: Motion) -> Edit
     ensures { result ≡ move_edit v motion }
 {
-    let rect = v.viewport;
-    let fill = fill_byte(v);
-    Edit { rect, motion, fill }
+    Edit {
+        rect: v.viewport,
+        motion,
+        fill: fill_byte(v),
+    }
 }
 
 // $16.
-pub fn scroll_down(v: View) -> Moved
+pub fn scroll_down(v: View) -> ViewPlan<1>
     ensures { effect_of result ≡ scroll_down v }
 {
     once(v, move_edit(v, Motion::Down))
 }
 
 // $17.
-pub fn scroll_up(v: View) -> Moved
+pub fn scroll_up(v: View) -> ViewPlan<1>
     ensures { effect_of result ≡ scroll_up v }
 {
     once(v, move_edit(v, Motion::Up))
-}
-
-pub fn min(a: u8, b: u8) -> u8
-    ensures { result ≡ min a b }
-{
-    if a < b { a } else { b }
 }
 
 // The mode that a printing code is stored in: MouseText has no effect in normal mode.
@@ -149,8 +130,7 @@ pub fn disable_mousetext(v: View) -> View
 pub fn space_count(v: View, b: u8) -> u8
     ensures { result ≡ space_count v b }
 {
-    let flags = v.flags;
-    if flags.dle & (32 <= b) {
+    if v.flags.dle & (32 <= b) {
         return b - 32;
     }
     0

@@ -1,17 +1,19 @@
 // Codes whose parameters place the cursor, the viewport or the viewport's cells.
-ghost use Rattle.std.specs.Prelude.{◌≡◌, ◌≤◌, max};
+#![tactic(auto, using(crate::proofs::Plans::plans, crate::proofs::Places::back_by), unfolding(port::specs::Codes::horizontal_scroll, port::specs::Codes::in_offset_range, port::specs::Codes::nearest_inside, port::specs::Codes::resize, port::specs::Codes::set_port_size, crate::specs::Place::offset_from))]
+
+ghost use Rattle.std.specs.Prelude.{◌≡◌, ◌≤◌};
 ghost use Rattle.rectangle.specs.Rectangles.{OnScreen};
 ghost use Rattle.port.specs.Codes.{horizontal_scroll, set_vertical, set_horizontal, goto_xy, in_offset_range, nearest_inside, resize, set_port_size};
 ghost use Rattle.view.specs.Plan.{effect_of};
 ghost use Rattle.view.specs.Place.{offset_from};
 
-use super::{Moved, min, move_edit, once, still};
+use super::{ViewPlan, move_edit, once, still};
 use port::View;
 use port::state::{cursor_at, with_viewport};
 use rectangle::{Motion, Rect};
 
 // $05: a signed byte. 1 to 127 shifts right, 128 to 255 left by 256 less it.
-pub fn horizontal_scroll(v: View, b: u8) -> Moved
+pub fn horizontal_scroll(v: View, b: u8) -> ViewPlan<1>
     ensures { effect_of result ≡ horizontal_scroll v b }
 {
     if b == 0 {
@@ -32,7 +34,7 @@ fn offset_from(low: u8, high: u8, own: u8, b: u8) -> u8
     if b < 32 {
         return own;
     }
-    low + min(b - 32, high - low)
+    low + (b - 32).min(high - low)
 }
 
 // $06: a line of the viewport + 32.
@@ -40,11 +42,10 @@ pub fn set_vertical(v: View, b: u8) -> View
     requires { OnScreen v.viewport }
     ensures { result ≡ set_vertical v b }
 {
-    let viewport = v.viewport;
     cursor_at(
         v,
         v.column,
-        offset_from(viewport.top, viewport.bottom, v.line, b),
+        offset_from(v.viewport.top, v.viewport.bottom, v.line, b),
     )
 }
 
@@ -53,10 +54,9 @@ pub fn set_horizontal(v: View, b: u8) -> View
     requires { OnScreen v.viewport }
     ensures { result ≡ set_horizontal v b }
 {
-    let viewport = v.viewport;
     cursor_at(
         v,
-        offset_from(viewport.left, viewport.right, v.column, b),
+        offset_from(v.viewport.left, v.viewport.right, v.column, b),
         v.line,
     )
 }
@@ -67,18 +67,12 @@ fn in_offset_range(b: u8) -> bool
     (32 <= b) & (b <= 127)
 }
 
-fn max(a: u8, b: u8) -> u8
-    ensures { result ≡ max a b }
-{
-    if a < b { b } else { a }
-}
-
 // The column or line of home that is nearest to a parameter's value.
 fn nearest_inside(low: u8, high: u8, b: u8) -> u8
     requires { 32 ≤ b }
     ensures { result ≡ nearest_inside low high b }
 {
-    max(low, min(b - 32, high))
+    (b - 32).min(high).max(low)
 }
 
 // A new viewport, with the cursor at its top left; nothing changes where it is no more than one column or line.

@@ -1,15 +1,18 @@
--- `charset::row_start` meets its contract: a case for each mode. Assumes nothing.
+-- `charset::row_start` meets its contract: a mode's number is its row. Assumes nothing.
+use mathlib.Core.Path.{◌≡◌, refl}
+use native.Mathlib.Omega.{arith}
+use denote.Enum.Declared.{tag_of}
+use Rattle.charset.specs.declared.Mode.{Mode}
+use Rattle.charset.specs.declared.Mode.TheVariants.{Normal, Inverse, MouseText}
+use Rattle.charset.specs.contracts.Mode.{the_type}
 use Rattle.charset.specs.Stored.{row_of}
 use Rattle.charset.proofs.row_start.Goals as goal
 
-pub returns-in-Normal : goal.returns-in-Normal
+numbered : (mode : Mode) → tag_of the_type mode ≡ row_of mode
 unfolding row_of
-returns-in-Normal c = cc
+numbered Normal = refl
+numbered Inverse = refl
+numbered MouseText = refl
 
-pub returns-in-Inverse : goal.returns-in-Inverse
-unfolding row_of
-returns-in-Inverse c = cc
-
-pub returns-in-MouseText : goal.returns-in-MouseText
-unfolding row_of
-returns-in-MouseText c = cc
+pub returns-clause-place : goal.returns-clause-place
+returns-clause-place c = let number = numbered c.args.mode in omega arith

@@ -1,12 +1,13 @@
--- `console::port_verdict` meets its contract: one return for each answer of the test. Assumes nothing.
-use Rattle.laws.proofs.Choices.{answers}
+-- `console::port_verdict` meets its contract: a port that passes the test is accepted, and is valid. Assumes nothing.
+use Rattle.std.proofs.Common.{refl, rules}
+use Rattle.laws.proofs.Tests.{answered}
+use Rattle.port.proofs.Validity.{decides_valid}
 use Rattle.console.specs.Calls.{port_verdict}
 use Rattle.console.proofs.port_verdict.Goals as goal
 
-pub returns-then-valid_port : goal.returns-then-valid_port
+pub returns-then-valid_port-clause-verdict : goal.returns-then-valid_port-clause-verdict
 unfolding port_verdict
-returns-then-valid_port c = search answers
+returns-then-valid_port-clause-verdict c = rw (← c.valid_port.ensures, c.if-valid_port.true) refl
 
-pub returns : goal.returns
-unfolding port_verdict
-returns c = search answers
+pub returns-then-valid_port-clause-valid : goal.returns-then-valid_port-clause-valid
+returns-then-valid_port-clause-valid c = search (answered (decides_valid c.args.p), rules)

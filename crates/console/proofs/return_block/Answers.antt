@@ -1,13 +1,9 @@
--- `console::return_block` meets its contract: refused before it starts, or the reply of `calls`. Assumes nothing.
-use borrow.Author.Rules.{rules}
-use Rattle.console.proofs.Replying.{acceptances, replies_refused, replies_accepted}
+-- `console::return_block` meets its contract: a call that is not refused is the one of `calls`, with its count. Assumes nothing.
+use Rattle.calls.specs.Verdict.{on_verdict}
 use Rattle.console.proofs.return_block.Goals as goal
 
-pub return_block-requires : goal.return_block-requires
-return_block-requires c = search (acceptances, rules)
-
-pub returns-in-Refused : goal.returns-in-Refused
-returns-in-Refused c = search replies_refused
-
-pub returns-in-Accepted : goal.returns-in-Accepted
-returns-in-Accepted c = search replies_accepted
+pub returns : goal.returns
+unfolding on_verdict
+returns c =
+    let whole = rw c.unwrap.ensures at c.as_array.ensures.cases in
+    rw (← c.plain_verdict.ensures.verdict, c.in_default.is, ← whole.same) c.return_block.ensures

@@ -1,19 +1,12 @@
--- `console::row_view` meets its contract: an empty part where the call is refused or the row is past the last, and else the row's own part. Assumes nothing.
-use borrow.Author.Rules.{rules}
-use Rattle.console.proofs.Replying.{acceptances, row_refused, row_past, row_good}
+-- `console::row_view` meets its contract: of a good call, a row that is there is handed out. Assumes nothing.
+use Rattle.std.proofs.Common.{◌≡◌, length, rules}
+use Rattle.block.specs.Block.{row_stretch}
+use Rattle.calls.specs.Verdict.{screen_verdict, first_of}
+use Rattle.console.specs.Calls.{port_verdict, plain_verdict, row_call}
 use Rattle.console.proofs.row_view.Goals as goal
 
-pub height_of-requires : goal.height_of-requires
-height_of-requires c = search (acceptances, rules)
-
-pub row_stretch-requires : goal.row_stretch-requires
-row_stretch-requires c = search (acceptances, rules)
-
 pub returns-then-row-height_of : goal.returns-then-row-height_of
-returns-then-row-height_of c = search row_good
-
-pub returns-in-Refused : goal.returns-in-Refused
-returns-in-Refused c = search row_refused
-
-pub returns-else-row-height_of : goal.returns-else-row-height_of
-returns-else-row-height_of c = search row_past
+unfolding row_call plain_verdict screen_verdict first_of port_verdict
+returns-then-row-height_of c =
+    let there : row_call c.args.p (length c.args.screen.now) c.args.row ≡ row_stretch c.args.p.view.viewport c.args.row = search rules in
+    rw there c.row_stretch.ensures

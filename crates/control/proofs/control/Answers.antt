@@ -1,48 +1,48 @@
 -- `control::control` meets its contract: an arm for each code, where the definition computes; each edits inside the viewport. In the last one the code is $1F, since it is none of the others. Assumes nothing.
 use borrow.Author.Rules.{rules}
 use Rattle.port.specs.Step.{control}
-use Rattle.control.proofs.Arms.{moved_on_screen, planned_on_screen, at_code, obeyed_idle, obeyed_wait, obeyed_view, obeyed_effect, last_code}
+use Rattle.control.proofs.Arms.{planned_on_screen, at_code, obeyed_idle, obeyed_wait, obeyed_view, obeyed_effect, last_code}
 use Rattle.port.proofs.Views.{keeps_right, keeps_line_start, keeps_line_end, keeps_clear_line, keeps_clear_port, keeps_port_start, keeps_port_end, keeps_backspace, keeps_line_feed, keeps_return, keeps_moves, keeps_up}
 use Rattle.control.proofs.control.Goals as goal
 
-pub moved-requires : goal.moved-requires
-moved-requires c = search (moved_on_screen, keeps_line_start, rules)
-
-pub moved-requires-in-8 : goal.moved-requires-in-8
-moved-requires-in-8 c = search (moved_on_screen, keeps_backspace, rules)
-
-pub moved-requires-in-10 : goal.moved-requires-in-10
-moved-requires-in-10 c = search (moved_on_screen, keeps_line_feed, rules)
-
 pub planned-requires : goal.planned-requires
-planned-requires c = search (planned_on_screen, keeps_port_end, rules)
+planned-requires c = search (planned_on_screen, keeps_line_start, rules)
 
-pub moved-requires-in-12 : goal.moved-requires-in-12
-moved-requires-in-12 c = search (moved_on_screen, keeps_clear_port, rules)
+pub planned-requires-in-8 : goal.planned-requires-in-8
+planned-requires-in-8 c = search (planned_on_screen, keeps_backspace, rules)
 
-pub moved-requires-in-13 : goal.moved-requires-in-13
-moved-requires-in-13 c = search (moved_on_screen, keeps_return, rules)
+pub planned-requires-in-10 : goal.planned-requires-in-10
+planned-requires-in-10 c = search (planned_on_screen, keeps_line_feed, rules)
+
+pub planned-requires-in-11 : goal.planned-requires-in-11
+planned-requires-in-11 c = search (planned_on_screen, keeps_port_end, rules)
+
+pub planned-requires-in-12 : goal.planned-requires-in-12
+planned-requires-in-12 c = search (planned_on_screen, keeps_clear_port, rules)
+
+pub planned-requires-in-13 : goal.planned-requires-in-13
+planned-requires-in-13 c = search (planned_on_screen, keeps_return, rules)
 
 pub planned-requires-in-19 : goal.planned-requires-in-19
 planned-requires-in-19 c = search (planned_on_screen, keeps_port_start, rules)
 
-pub moved-requires-in-22 : goal.moved-requires-in-22
-moved-requires-in-22 c = search (moved_on_screen, keeps_moves, rules)
+pub planned-requires-in-22 : goal.planned-requires-in-22
+planned-requires-in-22 c = search (planned_on_screen, keeps_moves, rules)
 
-pub moved-requires-in-23 : goal.moved-requires-in-23
-moved-requires-in-23 c = search (moved_on_screen, keeps_moves, rules)
+pub planned-requires-in-23 : goal.planned-requires-in-23
+planned-requires-in-23 c = search (planned_on_screen, keeps_moves, rules)
 
-pub moved-requires-in-26 : goal.moved-requires-in-26
-moved-requires-in-26 c = search (moved_on_screen, keeps_clear_line, rules)
+pub planned-requires-in-26 : goal.planned-requires-in-26
+planned-requires-in-26 c = search (planned_on_screen, keeps_clear_line, rules)
 
-pub moved-requires-in-28 : goal.moved-requires-in-28
-moved-requires-in-28 c = search (moved_on_screen, keeps_right, rules)
+pub planned-requires-in-28 : goal.planned-requires-in-28
+planned-requires-in-28 c = search (planned_on_screen, keeps_right, rules)
 
-pub moved-requires-in-29 : goal.moved-requires-in-29
-moved-requires-in-29 c = search (moved_on_screen, keeps_line_end, rules)
+pub planned-requires-in-29 : goal.planned-requires-in-29
+planned-requires-in-29 c = search (planned_on_screen, keeps_line_end, rules)
 
-pub moved-requires-in_default : goal.moved-requires-in_default
-moved-requires-in_default c = search (moved_on_screen, keeps_up, rules)
+pub planned-requires-in_default : goal.planned-requires-in_default
+planned-requires-in_default c = search (planned_on_screen, keeps_up, rules)
 
 pub returns-in-0 : goal.returns-in-0
 unfolding control

@@ -4,11 +4,11 @@ use Rattle.port.specs.Step.{perform}
 use Rattle.port.proofs.Views.{keeps_horizontal_scroll}
 use Rattle.printer.proofs.Printing.{stored_as}
 use Rattle.control.specs.Active.{with_active}
-use Rattle.control.proofs.Arms.{moved_on_screen, spaces_on_screen, commands, last_command}
+use Rattle.control.proofs.Arms.{planned_on_screen, spaces_on_screen, commands, last_command}
 use Rattle.control.proofs.perform.Goals as goal
 
-pub moved-requires : goal.moved-requires
-moved-requires c = search (moved_on_screen, keeps_horizontal_scroll, rules)
+pub planned-requires : goal.planned-requires
+planned-requires c = search (planned_on_screen, keeps_horizontal_scroll, rules)
 
 pub print_spaces-requires : goal.print_spaces-requires
 print_spaces-requires c = search (spaces_on_screen, stored_as, rules)

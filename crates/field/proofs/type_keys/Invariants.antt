@@ -1,11 +1,6 @@
--- The invariant of `field::type_keys`: what was read so far and what the rest leaves are what all keys leave. Each turn reads a key. Assumes nothing.
-use Prim.Native.Nat.{◌-◌}
-use lib.ListN.{length}
+-- The invariant of `field::type_keys`: what was read so far and what the rest leaves are what all keys leave. Assumes nothing.
 use Rattle.field.proofs.Reading.{Reading}
 use Rattle.field.proofs.type_keys.Given as goal
 
-abbrev pub invariant-loop-read : goal.invariant-loop-read
-invariant-loop-read l = Reading l.width l.maximum l.default l.initial.buffer l.initial.current l.keys l.buffer l.current l.beeps l.read
-
-abbrev pub decreases-loop-read : goal.decreases-loop-read
-decreases-loop-read l = length l.keys - l.read
+abbrev pub invariant-loop-key : goal.invariant-loop-key
+invariant-loop-key l = Reading l.field.width l.field.maximum l.field.default.now l.initial.buffer l.fn.state l.keys l.field.default_fits l.buffer l.answer l.key-index

@@ -1,13 +1,10 @@
--- `multiplexer::close` meets its contract: refused, or the slot becomes a free one. Assumes nothing.
-use borrow.Author.Rules.{rules}
-use Rattle.multiplexer.proofs.Replying.{client_place, replies_refused, close_done_by}
+-- `multiplexer::close` meets its contract: the client's slot becomes a free one. Assumes nothing.
+use mathlib.Core.Path.{refl}
+use Rattle.multiplexer.specs.Calls.{on_slot}
 use Rattle.multiplexer.proofs.close.Goals as goal
 
-pub with_slot-requires : goal.with_slot-requires
-with_slot-requires c = search (client_place, rules)
-
-pub returns-in-Refused : goal.returns-in-Refused
-returns-in-Refused c = search replies_refused
-
-pub returns-in-At : goal.returns-in-At
-returns-in-At c = search close_done_by
+pub returns-in-Ok : goal.returns-in-Ok
+unfolding on_slot
+returns-in-Ok c =
+    rw (← c.client_slot.ensures.located, c.in-Ok.is, c.done.ensures, c.with_slot.ensures, c.free_slot.ensures)
+    (record { status_is = refl; state_is = refl; result_is = refl; cells = refl; bytes = refl })

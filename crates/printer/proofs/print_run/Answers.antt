@@ -5,10 +5,10 @@ use Rattle.printer.proofs.Codes.{run_fits, run_printed, none_printed}
 use Rattle.printer.proofs.print_run.Goals as goal
 
 pub store_run-requires : goal.store_run-requires
-store_run-requires c = (omega arith, omega arith, search rules, search rules, search rules)
+store_run-requires c = (omega arith, omega arith)
 
-pub returns-then-flags : goal.returns-then-flags
-returns-then-flags c = search (run_fits, run_printed, rules)
+pub returns-then-not-v : goal.returns-then-not-v
+returns-then-not-v c = search (none_printed, arith, rules)
 
 pub returns : goal.returns
-returns c = search (none_printed, arith, rules)
+returns c = search (run_fits, run_printed, rules)

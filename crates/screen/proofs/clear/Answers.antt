@@ -1,23 +1,11 @@
 -- `screen::clear` meets its contract, by its invariant. Assumes nothing.
 use native.Mathlib.Omega.{arith}
 use borrow.Author.Rules.{rules}
-use Rattle.screen.proofs.Rewrites.{none}
-use Rattle.screen.proofs.Lines.{box_of, fill_below, all_done}
+use Rattle.screen.proofs.Lines.{fill_below, all_done}
 use Rattle.screen.proofs.clear.Goals as goal
 
-pub loop-line-init : goal.loop-line-init
-loop-line-init c = (omega arith, omega arith, none)
-
 pub loop-line-preserved : goal.loop-line-preserved
-loop-line-preserved c = let walk = c.loop-line.invariant.2 in (
-  omega arith,
-  omega arith,
-  fill_below _ (search rules) (omega arith) (omega arith) (omega arith) (omega arith) _ _ _ c.fill_run.ensures (λ i h. tt) walk,
-)
-
-pub shape_of-screen : goal.shape_of-screen
-shape_of-screen c = c.loop-line.invariant.2.len
+loop-line-preserved c = fill_below _ (search rules) (omega arith) (omega arith) (omega arith) (omega arith) _ _ _ c.fill_run.ensures (λ i h. tt) c.loop-line.invariant
 
 pub returns : goal.returns
-returns c = all_done _ _ _ _ (box_of _ _ _ (omega arith) (omega arith)) (omega arith) (search rules) (search rules)
-    c.loop-line.invariant.2
+returns c = all_done _ _ _ _ (omega arith) (search rules) (search rules) c.loop-line.invariant

@@ -1,17 +1,12 @@
--- `screen::fill_run` meets its contract, by its invariant. Assumes nothing.
+-- `screen::fill_run` meets its contract, by its invariant: the part comes back with byte in each place. Assumes nothing.
 use mathlib.Core.Path.{refl}
 use native.Mathlib.Omega.{arith}
-use Rattle.screen.proofs.Rewrites.{none, ends, one_after}
+use Rattle.screen.proofs.Rewrites.{one_after}
+use Rattle.screen.proofs.Parts.{filled}
 use Rattle.screen.proofs.fill_run.Goals as goal
 
-pub loop-i-init : goal.loop-i-init
-loop-i-init c = (omega arith, omega arith, none)
-
-pub loop-i-preserved : goal.loop-i-preserved
-loop-i-preserved c = (omega arith, omega arith, one_after c.loop-i.invariant.2 (omega arith) (omega arith) refl)
-
-pub shape_of-screen : goal.shape_of-screen
-shape_of-screen c = c.loop-i.invariant.2.len
+pub loop-cell-preserved : goal.loop-cell-preserved
+loop-cell-preserved c = one_after c.loop-cell.invariant (omega arith) c.loop-cell-test.true refl
 
 pub returns : goal.returns
-returns c = ends c.loop-i.invariant.2 refl (omega arith)
+returns c = filled c.args.start c.args.end c.args.byte c.args.screen.now _ (omega arith) (omega arith) c.loop-cell-test.false c.loop-cell.invariant

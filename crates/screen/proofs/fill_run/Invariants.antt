@@ -1,7 +1,6 @@
--- The invariant of `screen::fill_run`: the cells from start up to i hold byte, and nothing else is changed. Assumes nothing.
-use Prim.Native.Nat.{◌≤◌}
-use Rattle.screen.specs.Rewrite.{Rewritten}
+-- The invariant of `screen::fill_run`: the cells of the part that the loop has passed hold byte, and the others are as they were. Assumes nothing.
+use Rattle.screen.specs.Rewrite.{Filled}
 use Rattle.screen.proofs.fill_run.Given as goal
 
-abbrev pub invariant-loop-i : goal.invariant-loop-i
-invariant-loop-i l = (l.start ≤ l.i) × (l.i ≤ l.end) × Rewritten l.start l.i (λ k. l.byte) l.initial.screen l.screen
+abbrev pub invariant-loop-cell : goal.invariant-loop-cell
+invariant-loop-cell l = Filled 0 l.cell-index l.byte l.initial.cells l.cells

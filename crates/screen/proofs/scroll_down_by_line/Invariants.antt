@@ -1,8 +1,8 @@
--- The invariant of `screen::scroll_down_by_line`: each of the rectangle's lines that have moved, counted from its bottom, holds what the one above it held at entry, and nothing else is changed. Assumes nothing.
-use Prim.Native.Nat.{◌+◌, ◌-◌, ◌≤◌}
+-- The invariant of `screen::scroll_down_by_line`: each of the rectangle's lines below line holds what the one above it held at entry, and nothing else is changed. Assumes nothing.
+use Prim.Native.Nat.{◌+◌, ◌≤◌}
 use Rattle.rectangle.specs.declared.Motion.{Motion}
-use Rattle.screen.proofs.Lines.{box, Done}
+use Rattle.screen.proofs.Lines.{Done}
 use Rattle.screen.proofs.scroll_down_by_line.Given as goal
 
-abbrev pub invariant-loop-moved : goal.invariant-loop-moved
-invariant-loop-moved l = Done (box l.start l.end l.first l.last) Motion.Down l.fill (l.last - l.moved + 1) (l.last + 1) l.initial.screen l.screen × (l.moved ≤ l.moving)
+abbrev pub invariant-loop-line : goal.invariant-loop-line
+invariant-loop-line l = Done l.fn.rect Motion.Down l.fill (l.line + 1) (l.bottom + 1) l.initial.screen l.screen × (l.top ≤ l.line)

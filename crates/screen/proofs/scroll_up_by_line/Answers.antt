@@ -1,25 +1,15 @@
 -- `screen::scroll_up_by_line` meets its contract. The bottom line is filled last. Assumes nothing.
-use mathlib.Core.Path.{refl, ◌∙◌}
+use mathlib.Core.Path.{refl}
 use native.Mathlib.Omega.{arith}
 use borrow.Author.Rules.{rules}
-use Rattle.screen.proofs.Rewrites.{none, ends}
-use Rattle.screen.proofs.Lines.{box_of, up_line, fill_below, all_done}
+use Rattle.screen.proofs.Rewrites.{ends}
+use Rattle.screen.proofs.Lines.{up_line, fill_below, all_done}
 use Rattle.screen.proofs.scroll_up_by_line.Goals as goal
 
-pub loop-line-init : goal.loop-line-init
-loop-line-init c = (omega arith, omega arith, none)
-
 pub loop-line-preserved : goal.loop-line-preserved
-loop-line-preserved c = let walk = c.loop-line.invariant.2 in (
-  omega arith,
-  omega arith,
-  up_line _ (search rules) (omega arith) (omega arith) (omega arith) (omega arith) _ _ c.move_line_up.ensures (omega arith) walk,
-)
-
-pub shape_of-screen : goal.shape_of-screen
-shape_of-screen c = let walk = c.loop-line.invariant.2 in c.fill_run.ensures.len ∙ walk.len
+loop-line-preserved c = up_line _ (search rules) (omega arith) (omega arith) (omega arith) (omega arith) _ _ c.copy_line.ensures (omega arith) c.loop-line.invariant
 
 pub returns : goal.returns
-returns c = let walk = c.loop-line.invariant.2 in
-    all_done _ _ _ _ (box_of _ _ _ refl refl) refl (search rules) (search rules)
-    (fill_below _ (search rules) (omega arith) (omega arith) (omega arith) (omega arith) _ _ _ c.fill_run.ensures (λ i h. h) (ends walk refl (omega arith)))
+returns c =
+    all_done _ _ _ _ refl (search rules) (search rules)
+    (fill_below _ (search rules) (omega arith) (omega arith) (omega arith) (omega arith) _ _ _ c.fill_run.ensures (λ i h. h) (ends c.loop-line.invariant refl (omega arith)))

@@ -1,8 +1,7 @@
 -- The invariant of `screen::scroll_up_by_line`: each of the rectangle's lines from its top up to line holds what the one below it held at entry, and nothing else is changed. Assumes nothing.
-use Prim.Native.Nat.{◌≤◌}
 use Rattle.rectangle.specs.declared.Motion.{Motion}
-use Rattle.screen.proofs.Lines.{box, Done}
+use Rattle.screen.proofs.Lines.{Done}
 use Rattle.screen.proofs.scroll_up_by_line.Given as goal
 
 abbrev pub invariant-loop-line : goal.invariant-loop-line
-invariant-loop-line l = (l.initial.line ≤ l.line) × (l.line ≤ l.last) × Done (box l.start l.end l.initial.line l.last) Motion.Up l.fill l.initial.line l.line l.initial.screen l.screen
+invariant-loop-line l = Done l.fn.rect Motion.Up l.fill l.fn.rect.top l.line l.initial.screen l.screen

@@ -1,25 +1,15 @@
--- `screen::shift_right` meets its contract. A gap of at most the width keeps both runs of a line in the rectangle. Assumes nothing.
+-- `screen::shift_right` meets its contract. A gap of at most the width keeps what is moved and what is filled of a line in the rectangle. Assumes nothing.
 use mathlib.Core.Path.{refl}
 use native.Mathlib.Omega.{arith}
 use borrow.Author.Rules.{rules}
-use Rattle.screen.proofs.Rewrites.{none}
+use Rattle.screen.proofs.Parts.{pushed}
 use Rattle.screen.proofs.Lines.{right_line, all_done}
 use Rattle.screen.proofs.shift_right.Goals as goal
 
-pub loop-line-init : goal.loop-line-init
-loop-line-init c = (omega arith, omega arith, none)
-
 pub loop-line-preserved : goal.loop-line-preserved
-loop-line-preserved c = let walk = c.loop-line.invariant.2 in
-    let gap = c.min-gap.result in
-    let moves = c.push_run.ensures in (
-      omega arith,
-      omega arith,
-      right_line _ (search rules) (omega arith) (omega arith) (omega arith) (omega arith) _ _ _ gap (omega arith) (omega arith) moves c.fill_run.ensures walk,
-    )
-
-pub shape_of-screen : goal.shape_of-screen
-shape_of-screen c = c.loop-line.invariant.2.len
+loop-line-preserved c =
+    let cells = pushed _ _ c.gap_of-gap.result _ c.loop-line.screen _ c.copy_within.ensures.by_index c.copy_within.ensures.len (omega arith) (omega arith) (omega arith) in
+    right_line _ (search rules) (omega arith) (omega arith) (omega arith) (omega arith) _ _ _ c.gap_of-gap.result (omega arith) refl cells c.fill_run.ensures c.loop-line.invariant
 
 pub returns : goal.returns
-returns c = all_done _ _ _ _ refl (omega arith) (search rules) (search rules) c.loop-line.invariant.2
+returns c = all_done _ _ _ _ (omega arith) (search rules) (search rules) c.loop-line.invariant

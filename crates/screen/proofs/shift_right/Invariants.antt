@@ -1,8 +1,7 @@
 -- The invariant of `screen::shift_right`: the rectangle's lines from its top up to line are shifted, and nothing else is changed. Assumes nothing.
-use Prim.Native.Nat.{◌≤◌}
 use Rattle.rectangle.specs.declared.Motion.{Motion}
 use Rattle.screen.proofs.Lines.{Done}
 use Rattle.screen.proofs.shift_right.Given as goal
 
 abbrev pub invariant-loop-line : goal.invariant-loop-line
-invariant-loop-line l = (l.rect.top ≤ l.line) × (l.line ≤ l.below) × Done l.rect (Motion.Right l.count) l.fill l.rect.top l.line l.initial.screen l.screen
+invariant-loop-line l = Done l.rect (Motion.Right l.count) l.fill l.rect.top l.line l.initial.screen l.screen

@@ -1,12 +1,6 @@
--- `screen::store_run` meets its contract, by its invariant. Assumes nothing.
-use native.Mathlib.Omega.{arith}
-use borrow.Author.Rules.{rules}
-use Rattle.screen.proofs.Runs.{none_stored, one_stored}
+-- `screen::store_run` meets its contract: so many of the codes as there is room for are stored as the mode's row has them. Assumes nothing.
+use Rattle.screen.proofs.Runs.{more_room}
 use Rattle.screen.proofs.store_run.Goals as goal
 
-pub loop-n-init : goal.loop-n-init
-loop-n-init c = (search rules, none_stored _ _ _ _ _ _ _ (omega arith))
-
-pub loop-n-preserved : goal.loop-n-preserved
-loop-n-preserved c = let run = c.loop-n.invariant.1 in
-    (search rules, one_stored run (omega arith) (omega arith) (omega arith) (omega arith) (omega arith) (omega arith) (omega arith) (search rules))
+pub returns : goal.returns
+returns c = more_room c.min-most.ensures (c.store_codes.ensures c.args.mode c.stored_row.ensures)

@@ -1,13 +1,6 @@
--- `editing::buffer::insert_byte` meets its contract, by the steps of its invariant. Assumes nothing.
-use borrow.Author.Rules.{rules}
-use Rattle.editing.proofs.Pasting.{insert_starts, insert_again, insert_ends}
+-- `editing::buffer::insert_byte` meets its contract: what is copied one place on, and the byte stored before it, are the text with the byte put in. Assumes nothing.
+use Rattle.editing.proofs.Pasting.{byte_inserted}
 use Rattle.editing.proofs.buffer.insert_byte.Goals as goal
 
-pub loop-i-init : goal.loop-i-init
-loop-i-init c = search (insert_starts, rules)
-
-pub loop-i-preserved : goal.loop-i-preserved
-loop-i-preserved c = search (insert_again, rules)
-
 pub returns : goal.returns
-returns c = search insert_ends
+returns c = byte_inserted c.args.buffer.now _ c.args.size c.args.at c.args.byte c.requires.0 c.requires.1 c.copy_within.ensures.after

@@ -1,13 +1,6 @@
--- `editing::buffer::remove_byte` meets its contract, by the steps of its invariant. Assumes nothing.
-use borrow.Author.Rules.{rules}
-use Rattle.editing.proofs.Pasting.{remove_starts, remove_again, remove_ends}
+-- `editing::buffer::remove_byte` meets its contract: what is copied one place back is the text with the byte taken out. Assumes nothing.
+use Rattle.editing.proofs.Pasting.{byte_removed}
 use Rattle.editing.proofs.buffer.remove_byte.Goals as goal
 
-pub loop-i-init : goal.loop-i-init
-loop-i-init c = search (remove_starts, rules)
-
-pub loop-i-preserved : goal.loop-i-preserved
-loop-i-preserved c = search (remove_again, rules)
-
 pub returns : goal.returns
-returns c = search remove_ends
+returns c = byte_removed c.args.buffer.now _ c.args.size c.args.at c.requires.0 c.requires.1 c.copy_within.ensures.after

@@ -1,7 +1,6 @@
--- `port::state::zero_view` meets its contract: the definition is opened. Assumes nothing.
-use Rattle.port.specs.State.{zero_view}
+-- `port::state::zero_view` meets its contract: field by field. Assumes nothing.
+use Rattle.port.proofs.Validity.{zero_fields}
 use Rattle.port.proofs.state.zero_view.Goals as goal
 
 pub returns : goal.returns
-unfolding zero_view
-returns c = (cc)
+returns c = zero_fields c.default.result c.default.ensures

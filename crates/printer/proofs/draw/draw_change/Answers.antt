@@ -10,8 +10,8 @@ apply-requires c = search (drawings, rules)
 pub mark-requires : goal.mark-requires
 mark-requires c = search (drawings, le_refl)
 
-pub returns-in-Nothing : goal.returns-in-Nothing
-returns-in-Nothing c = search drawings
+pub returns-in-None : goal.returns-in-None
+returns-in-None c = search drawings
 
-pub returns-in-Draw : goal.returns-in-Draw
-returns-in-Draw c = search drawings
+pub returns-in-Some : goal.returns-in-Some
+returns-in-Some c = search drawings

@@ -1,18 +1,9 @@
--- `view::place::horizontal_scroll` meets its contract: each of the three ways through it is an arm of the definition.
--- 255 less a byte, and one more, is 256 less it. Assumes nothing.
+-- `view::place::horizontal_scroll` meets its contract: 255 less a byte, and one more, is 256 less it. Assumes nothing.
 use Rattle.laws.proofs.Choices.{choices}
 use Rattle.port.specs.Codes.{horizontal_scroll}
 use Rattle.view.proofs.Places.{back_by}
 use Rattle.view.proofs.Plans.{plans}
 use Rattle.view.proofs.place.horizontal_scroll.Goals as goal
-
-pub returns-then-b-eq0 : goal.returns-then-b-eq0
-unfolding horizontal_scroll
-returns-then-b-eq0 c = search (choices, plans)
-
-pub returns-then-b-lt128 : goal.returns-then-b-lt128
-unfolding horizontal_scroll
-returns-then-b-lt128 c = search (choices, plans)
 
 pub returns : goal.returns
 unfolding horizontal_scroll

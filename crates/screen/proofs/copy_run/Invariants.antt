@@ -1,7 +1,0 @@
--- The invariant of `screen::copy_run`: k bytes are copied, and nothing else is changed. Assumes nothing.
-use Prim.Native.Nat.{◌≤◌}
-use Rattle.screen.specs.Rewrite.{Copied}
-use Rattle.screen.proofs.copy_run.Given as goal
-
-abbrev pub invariant-loop-k : goal.invariant-loop-k
-invariant-loop-k l = (l.k ≤ l.count) × Copied l.source l.from l.at l.k l.initial.target l.target

@@ -1,7 +1,0 @@
--- The invariant of `screen::moves::pull_cells`: the cells before i hold what those a line after them held at entry, and nothing else is changed. Assumes nothing.
-use Prim.Native.Nat.{◌+◌, ◌≤◌}
-use Rattle.screen.specs.Rewrite.{Relocated}
-use Rattle.screen.proofs.moves.pull_cells.Given as goal
-
-abbrev pub invariant-loop-i : goal.invariant-loop-i
-invariant-loop-i l = (l.i ≤ l.count) × Relocated 0 l.i (λ k. k + 80) l.initial.cells l.cells

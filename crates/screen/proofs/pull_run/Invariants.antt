@@ -1,8 +1,0 @@
--- The invariant of `screen::pull_run`: the cells from start up to i hold what those gap places after them held at entry, and nothing else is changed. Assumes nothing.
-use Prim.Native.Nat.{◌+◌, ◌≤◌}
-use lib.ListN.{get_or}
-use Rattle.screen.specs.Rewrite.{Rewritten}
-use Rattle.screen.proofs.pull_run.Given as goal
-
-abbrev pub invariant-loop-i : goal.invariant-loop-i
-invariant-loop-i l = (l.start ≤ l.i) × (l.i ≤ l.end) × Rewritten l.start l.i (λ k. get_or l.initial.screen (k + l.gap) 0) l.initial.screen l.screen

@@ -1,6 +1,0 @@
--- `view::erase::clear_from_line_start` meets its contract: it makes the one edit that `erase_edit` promises. Assumes nothing.
-use Rattle.view.proofs.Plans.{plans}
-use Rattle.view.proofs.erase.clear_from_line_start.Goals as goal
-
-pub returns : goal.returns
-returns c = search plans

@@ -1,5 +1,0 @@
--- `view::erase::erase_edit` meets its contract: the fill is what `fill_byte` promises. Assumes nothing.
-use Rattle.view.proofs.erase.erase_edit.Goals as goal
-
-pub returns : goal.returns
-returns c = cc

@@ -130,12 +130,12 @@ keeps_press f c key fits h =
     h
 
 -- a field that is ready for a key is ready for the next one too; the buffer stays as long as it was, and no byte from the maximum on is changed
-module _ (width maximum : ℕ) (default b : List ℕ) (c : Content) (key : ℕ) (fits : length default ≤ maximum) (h : Ready width maximum (length b) (state_of c)) where
+module _ (width maximum : ℕ) (default b : List ℕ) (c : Content) (key : ℕ) (h : Ready width maximum (length default) (length b) (state_of c)) where
   abbrev pressed : Content
   pressed = (press (settings width maximum default) c key).content
 
   kept : Within width maximum (state_of pressed)
-  kept = keeps_press (settings width maximum default) c key fits h.within
+  kept = keeps_press (settings width maximum default) c key h.default_fits h.within
 
   pub length_pressed : length (laid pressed.text b) ≡ length b
   length_pressed = length_laid pressed.text b (omega (arith, kept.length_within, h.room))
@@ -143,5 +143,5 @@ module _ (width maximum : ℕ) (default b : List ℕ) (c : Content) (key : ℕ) 
   pub behind_pressed : drop maximum (laid pressed.text b) ≡ drop maximum b
   behind_pressed = behind_laid pressed.text b maximum kept.length_within
 
-  pub ready_press : Ready width maximum (length (laid pressed.text b)) (state_of pressed)
-  ready_press = rw length_pressed (record { within = kept; room = h.room })
+  pub ready_press : Ready width maximum (length default) (length (laid pressed.text b)) (state_of pressed)
+  ready_press = rw length_pressed (record { within = kept; small = h.small; room = h.room; default_fits = h.default_fits })

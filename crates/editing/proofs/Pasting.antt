@@ -31,9 +31,9 @@ module _ (b b' : List ℕ) (size at : ℕ) where
       ∙ rw n
       (pasted_laid b (inserted at byte (take size b)) (byte ∷ drop at b) at (size + 1 - at) (omega arith) (simp length-drop (omega arith)) (inserted_front b size at (omega arith) byte h))
 
-  pub byte_removed : at < size → size ≤ length b → b' ≡ paste b at (drop (at + 1) b) (size - (at + 1)) → b' ≡ laid (removed at (take size b)) b
-  byte_removed h inside e =
-      let n : size - (at + 1) ≡ size - 1 - at = omega arith in
+  pub byte_removed : (n : ℕ) → at < size → size ≤ length b → b' ≡ paste b at (drop (at + 1) b) (n - (at + 1)) → n ≡ size → b' ≡ laid (removed at (take size b)) b
+  byte_removed n h inside e end =
+      let moved : n - (at + 1) ≡ size - 1 - at = omega arith in
       e
-      ∙ rw n
+      ∙ rw moved
       (pasted_laid b (removed at (take size b)) (drop (at + 1) b) at (size - 1 - at) (omega arith) (simp length-drop (omega arith)) (removed_front b size at inside h))

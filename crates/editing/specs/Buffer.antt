@@ -28,10 +28,12 @@ pub record Within (width maximum : ℕ) (state : State) : Type 0 where
   pub cursor_in_text : state.cursor ≤ state.length
   pub cursor_in_field : state.cursor ≤ width
 
--- what a key needs beside an accepted field: a state within its limits, and a buffer with room for any text
-pub record Ready (width maximum buffer_length : ℕ) (state : State) : Type 0 where
+-- what a key needs: a state within its limits, and a buffer with room for any text, the default too. Of an accepted field (`Field`) `small` and `default_fits` are known already
+pub record Ready (width maximum default_length buffer_length : ℕ) (state : State) : Type 0 where
   pub within : Within width maximum state
+  pub small : maximum ≤ 254
   pub room : maximum ≤ buffer_length
+  pub default_fits : default_length ≤ maximum
 
 -- the state that a key leaves, and its beeps: where it is beeped, the state stays
 abbrev pub state_after : State → Option State → State

@@ -8,7 +8,7 @@ use super::{Field, State};
 
 // A printing key.
 pub fn insert(field: &Field, buffer: &mut [u8], state: State, key: u8) -> Option<State>
-    requires { Ready field.now.width field.now.maximum (length buffer.old) state }
+    requires { Ready field.now.width field.now.maximum (length field.now.default.now) (length buffer.old) state }
     ensures { Presses (rules.insert field.now.width field.now.maximum (content_of state buffer.old) key) state buffer.old result buffer.new }
 {
     let State { length, cursor } = state;

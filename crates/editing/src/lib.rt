@@ -27,7 +27,7 @@ pub struct State {
 // A key that ends nothing, a byte as the request names it: each by its own arm, and any other is beeped. What it leaves, or none where it is beeped: then state and buffer stay.
 // Field, buffer and state are no struct with methods, and `Ready` is a clause: a key that stores no byte is given no buffer, and that shows that the buffer stays.
 pub fn press(field: &Field, buffer: &mut [u8], state: State, key: u8) -> Option<State>
-    requires { Ready field.now.width field.now.maximum (length buffer.old) state }
+    requires { Ready field.now.width field.now.maximum (length field.now.default.now) (length buffer.old) state }
     ensures { Presses (rules.press (settings_of field.now) (content_of state buffer.old) key) state buffer.old result buffer.new }
 {
     match key {

@@ -43,7 +43,7 @@ unfolding type_keys
 nothing_after f c b read beeps = let n : read + 0 ≡ read = omega arith in let m : beeps + 0 ≡ beeps = omega arith in rw (n, m)
 
 -- ---- the loop: so many keys have been read, the answer is that of keys which are not at their end yet, and the buffer is b
-module _ (width maximum : ℕ) (default b₀ : List ℕ) (at : State) (keys : List ℕ) (fits : length default ≤ maximum) where
+module _ (width maximum : ℕ) (default b₀ : List ℕ) (at : State) (keys : List ℕ) where
   abbrev f : Settings
   f = settings width maximum default
 
@@ -57,16 +57,16 @@ module _ (width maximum : ℕ) (default b₀ : List ℕ) (at : State) (keys : Li
     pub open_is : answer.ending ≡ None
     pub few : answer.beeps ≤ read
     pub len : length b ≡ length b₀
-    pub ready : Ready width maximum (length b) answer.state
+    pub ready : Ready width maximum (length default) (length b) answer.state
     pub rest : all ≡ after read answer.beeps (type_keys f (content_of answer.state b) b (drop read keys))
 
-  pub reading_starts : (answer : KeysAnswer) → answer ≡ answer_of Done at 0 0 None → Ready width maximum (length b₀) at → Reading b₀ answer 0
+  pub reading_starts : (answer : KeysAnswer) → answer ≡ answer_of Done at 0 0 None → Ready width maximum (length default) (length b₀) at → Reading b₀ answer 0
   reading_starts answer is ready =
       subst (λ (a : KeysAnswer). Reading b₀ a 0) (sym is)
       (record { within = omega arith; done = refl; read_is = refl; open_is = refl; few = omega arith; len = refl; ready = ready; rest = sym (after_nothing all) })
 
   -- where the reading stops, the answer is what all keys leave
-  stopped : (b : List ℕ) (current : State) (beeps read : ℕ) (ending : Option Ending) → Ready width maximum (length b) current
+  stopped : (b : List ℕ) (current : State) (beeps read : ℕ) (ending : Option Ending) → Ready width maximum (length default) (length b) current
       → all ≡ record { content = content_of current b; buffer = b; read = read; beeps = beeps; ending = ending }
       → Replies (keys_typed all) (answer_of Done current read beeps ending) b
   stopped b current beeps read ending ready is =
@@ -89,8 +89,8 @@ module _ (width maximum : ℕ) (default b₀ : List ℕ) (at : State) (keys : Li
       read_is = ap (λ (n : ℕ). n + 1) r.read_is;
       open_is = refl;
       few = let one = beeps_once f (content_of answer.state b) key in omega (arith, r.few, pressed.beeps_are);
-      len = ap length pressed.bytes ∙ length_pressed width maximum default b (content_of answer.state b) key fits found ∙ r.len;
-      ready = rw (pressed.state_is, pressed.bytes) (ready_press width maximum default b (content_of answer.state b) key fits found);
+      len = ap length pressed.bytes ∙ length_pressed width maximum default b (content_of answer.state b) key found ∙ r.len;
+      ready = rw (pressed.state_is, pressed.bytes) (ready_press width maximum default b (content_of answer.state b) key found);
       rest = r.rest
           ∙ ap (λ (ks : List ℕ). after read answer.beeps (type_keys f (content_of answer.state b) b ks)) next_key
           ∙ ap (after read answer.beeps) (goes_on f (content_of answer.state b) b key (drop (read + 1) keys) none)
@@ -101,7 +101,7 @@ module _ (width maximum : ℕ) (default b₀ : List ℕ) (at : State) (keys : Li
         e : Effect
         e = press f (content_of answer.state b) key
 
-        found : Ready width maximum (length b) (state_of (content_of answer.state b))
+        found : Ready width maximum (length default) (length b) (state_of (content_of answer.state b))
         found = rw (state_content answer.state b (omega (arith, r.ready.within, r.ready.room))) r.ready
 
         content_is : content_of (state_after answer.state p) b' ≡ e.content

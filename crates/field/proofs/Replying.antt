@@ -77,7 +77,7 @@ module _ (width maximum : ℕ) (default buffer r : Bor (List ℕ)) (state : Stat
   text_refused e part = rw (sym is ∙ (verdict_err v e).1) part
 
   module _ (e : is_err v ≡ false) where
-    pub text_ready : Ready width maximum (length buffer.now) state
+    pub text_ready : Ready width maximum (length default.now) (length buffer.now) state
     text_ready = keys_accepted width maximum (length default.now) (length buffer.now) state (sym is ∙ verdict_ok v e)
 
     pub text_none : ending ≡ None → IsPart buffer r no_stretch → Given

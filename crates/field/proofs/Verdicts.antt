@@ -78,11 +78,12 @@ module _ (width maximum default buffer : ℕ) where
   unfolding keys_verdict
   keys_sized state e = start_accepted (both_accepted (start_verdict width maximum default buffer) (state_verdict width maximum state) e).0
 
-  pub keys_accepted : (state : State) → keys_verdict width maximum default buffer state ≡ Ok tt → Ready width maximum buffer state
+  pub keys_accepted : (state : State) → keys_verdict width maximum default buffer state ≡ Ok tt → Ready width maximum default buffer state
   unfolding keys_verdict
   keys_accepted state e =
       let both = both_accepted (start_verdict width maximum default buffer) (state_verdict width maximum state) e in
-      record { within = within_by state both.1; room = (start_accepted both.0).room }
+      let sizes = start_accepted both.0 in
+      record { within = within_by state both.1; small = sizes.maximum_high; room = sizes.room; default_fits = sizes.default_fits }
 
 -- ---- each way through a judgement
 module _ (width maximum default buffer : ℕ) where
@@ -137,11 +138,12 @@ module _ {width maximum buffer : ℕ} {default : List ℕ} {v : Result Field Sta
       let lent : length field.default.now ≡ length default = ap (λ (s : Settings). length s.default) same in
       omega (arith, sizes.default_fits, sizes.room)
 
-  pub ready_field : (state : State) → verdict_of v ≡ keys_verdict width maximum (length default) buffer state → Ready field.width field.maximum buffer state
+  pub ready_field : (state : State) → verdict_of v ≡ keys_verdict width maximum (length default) buffer state → Ready field.width field.maximum (length field.default.now) buffer state
   ready_field state is =
       let wide : field.width ≡ width = ap (λ (s : Settings). s.width) same in
       let long : field.maximum ≡ maximum = ap (λ (s : Settings). s.maximum) same in
-      rw (wide, long) (keys_accepted width maximum (length default) buffer state (sym is ∙ ap verdict_of e))
+      let lent : field.default.now ≡ default = ap (λ (s : Settings). s.default) same in
+      rw (wide, long, lent) (keys_accepted width maximum (length default) buffer state (sym is ∙ ap verdict_of e))
 
 -- ---- a property of what a refused call gives, and of what one that is made does, is one of the call
 pub by_verdict : {A : Type 0} (P : A → Type 0) (refused : Status → A) (made : A) (v : Verdict) → ((status : Status) → v ≡ Err status → P (refused status)) → (v ≡ Ok tt → P made) → P (on_verdict v refused made)

@@ -113,7 +113,7 @@ fn nothing_read(status: Status, state: State) -> KeysAnswer
 
 // Keys up to the first ending key, or all of them.
 fn type_keys(field: &Field, buffer: &mut [u8], state: State, keys: &[u8]) -> KeysAnswer
-    requires { Ready field.now.width field.now.maximum (length buffer.old) state }
+    requires { Ready field.now.width field.now.maximum (length field.now.default.now) (length buffer.old) state }
     ensures { Replies (keys_typed (rules.type_keys (settings_of field.now) (content_of state buffer.old) buffer.old keys.now)) result buffer.new }
 {
     let mut answer = nothing_read(Status::Done, state);

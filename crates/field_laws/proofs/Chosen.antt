@@ -32,7 +32,7 @@ text_after_lem width maximum default b state keys =
     (λ status e done. absurd (keys_not_done width maximum (length default) (length b) state (e ∙ ap Err done)))
     (λ e _.
     let sizes = keys_sized width maximum (length default) (length b) state e in
-    let r = ran width maximum default sizes.default_fits b state keys (keys_accepted width maximum (length default) (length b) state e) in
+    let r = ran width maximum default b state keys (keys_accepted width maximum (length default) (length b) state e) in
     let x = type_keys (settings width maximum default) (content_of state b) b keys in
     (accepts width maximum default x.buffer (state_of x.content) [] x.ending).text_given (rw r.len sizes) r.ready.within)
 

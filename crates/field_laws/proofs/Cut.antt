@@ -80,7 +80,7 @@ module _ (width maximum : ℕ) (default b : List ℕ) (state : State) (xs ys : L
     sizes = keys_sized width maximum (length default) (length b) state e
 
     left : Ran width maximum default b xs x
-    left = ran width maximum default sizes.default_fits b state xs (keys_accepted width maximum (length default) (length b) state e)
+    left = ran width maximum default b state xs (keys_accepted width maximum (length default) (length b) state e)
 
     -- the second call is accepted too, and goes on from what the first left
     second : keys_call width maximum default x.buffer (state_of x.content) ys ≡ keys_typed (type_keys f x.content x.buffer ys)

@@ -16,10 +16,9 @@ use Rattle.field.specs.declared.Ending.{Ending}
 use Rattle.std.specs.Prelude.{Option, Some, None}
 use Rattle.field.specs.declared.Ending.TheVariants.{Return, Escape}
 use Rattle.field.specs.Endings.{ending_of}
-use Rattle.field.specs.Rules.{Sized}
 use Rattle.field.specs.Typing.{Typed, type_keys}
 use Rattle.field.specs.Calls.{start_call, keys_call, text_by, text_bytes}
-use Rattle.field.proofs.Verdicts.{start_accepted, keys_sized, keys_accepted}
+use Rattle.field.proofs.Verdicts.{start_accepted, keys_accepted}
 use Rattle.field.proofs.Endings.{ended?}
 use Rattle.field.proofs.Reading.{goes_on, ends}
 use Rattle.field_laws.specs.Laws.{StartLimits, KeysLimits, BeepChangesNothing, TextLimit}
@@ -47,7 +46,7 @@ keys_limits width maximum default b state keys =
       beeps_read = omega arith;
     })
     (λ e.
-    let r = ran width maximum default (keys_sized width maximum (length default) (length b) state e).default_fits b state keys (keys_accepted width maximum (length default) (length b) state e) in
+    let r = ran width maximum default b state keys (keys_accepted width maximum (length default) (length b) state e) in
     record {
       within = λ _. r.ready.within;
       behind = r.behind;
@@ -88,9 +87,9 @@ pub text_limit : (width maximum : ℕ) (default b : List ℕ) (state : State) (e
 text_limit width maximum default b state ending =
     by_text width maximum default b state ending (λ x. length (text_bytes x default b) ≤ maximum)
     (λ status e. omega arith)
-    (λ e. given ending (keys_sized width maximum (length default) (length b) state e) (keys_accepted width maximum (length default) (length b) state e))
+    (λ e. given ending (keys_accepted width maximum (length default) (length b) state e))
   where
-    given : (ending : Option Ending) → Sized width maximum (length default) (length b) → Ready width maximum (length b) state → length (text_bytes (text_by (length default) state ending) default b) ≤ maximum
-    given None s h = omega arith
-    given (Some Return) s h = let len = length-take-le state.length b (omega (arith, h.within, h.room)) in omega (arith, h.within)
-    given (Some Escape) s h = omega (arith, length-take-le (length default) default (omega arith), s.default_fits)
+    given : (ending : Option Ending) → Ready width maximum (length default) (length b) state → length (text_bytes (text_by (length default) state ending) default b) ≤ maximum
+    given None h = omega arith
+    given (Some Return) h = let len = length-take-le state.length b (omega (arith, h.within, h.room)) in omega (arith, h.within)
+    given (Some Escape) h = omega (arith, length-take-le (length default) default (omega arith), h.default_fits)

@@ -18,7 +18,7 @@ use Rattle.field.proofs.Reading.{goes_on, ends}
 
 -- what keys leave: the field is ready for more, and its text lies in front of the buffer
 pub record Ran (width maximum : ℕ) (default b keys : List ℕ) (x : Typed) : Type 0 where
-  pub ready : Ready width maximum (length x.buffer) (state_of x.content)
+  pub ready : Ready width maximum (length default) (length x.buffer) (state_of x.content)
   pub front : content_of (state_of x.content) x.buffer ≡ x.content
   pub len : length x.buffer ≡ length b
   pub behind : drop maximum x.buffer ≡ drop maximum b
@@ -27,18 +27,18 @@ pub record Ran (width maximum : ℕ) (default b keys : List ℕ) (x : Typed) : T
   pub read_ending : (x.ending ≡ None → ⊥) → (1 ≤ x.read) × (ending_of (get_or keys (x.read - 1) 0) ≡ x.ending)
   pub beeps_read : x.beeps ≤ x.read
 
-module _ (width maximum : ℕ) (default : List ℕ) (fits : length default ≤ maximum) where
+module _ (width maximum : ℕ) (default : List ℕ) where
   abbrev f : Settings
   f = settings width maximum default
 
   -- one key more in front
-  ran_after : (c : Content) (b : List ℕ) (key : ℕ) (keys : List ℕ) (x : Typed) → Ready width maximum (length b) (state_of c) → Ran width maximum default (laid (press f c key).content.text b) keys x
+  ran_after : (c : Content) (b : List ℕ) (key : ℕ) (keys : List ℕ) (x : Typed) → Ready width maximum (length default) (length b) (state_of c) → Ran width maximum default (laid (press f c key).content.text b) keys x
       → Ran width maximum default b (key ∷ keys) (after 1 (press f c key).beeps x)
   ran_after c b key keys x h r = record {
     ready = r.ready;
     front = r.front;
-    len = r.len ∙ length_pressed width maximum default b c key fits h;
-    behind = r.behind ∙ behind_pressed width maximum default b c key fits h;
+    len = r.len ∙ length_pressed width maximum default b c key h;
+    behind = r.behind ∙ behind_pressed width maximum default b c key h;
     read_lent = omega (arith, r.read_lent);
     read_all = λ e. omega (arith, r.read_all e);
     read_ending = λ some.
@@ -48,7 +48,7 @@ module _ (width maximum : ℕ) (default : List ℕ) (fits : length default ≤ m
     beeps_read = omega (arith, r.beeps_read, beeps_once f c key);
   }
 
-  ran_from : (c : Content) (b keys : List ℕ) → Ready width maximum (length b) (state_of c) → content_of (state_of c) b ≡ c → Ran width maximum default b keys (type_keys f c b keys)
+  ran_from : (c : Content) (b keys : List ℕ) → Ready width maximum (length default) (length b) (state_of c) → content_of (state_of c) b ≡ c → Ran width maximum default b keys (type_keys f c b keys)
   unfolding type_keys
   ran_from c b [] h front =
       record { ready = h; front = front; len = refl; behind = refl; read_lent = omega arith; read_all = λ e. refl; read_ending = λ no. absurd (no refl); beeps_read = omega arith }
@@ -56,13 +56,13 @@ module _ (width maximum : ℕ) (default : List ℕ) (fits : length default ≤ m
       ⊎_elim
       (λ e. rw (goes_on f c b key keys e)
       (ran_after c b key keys _ h
-      (ran_from (press f c key).content (laid (press f c key).content.text b) keys (ready_press width maximum default b c key fits h) (content_laid (press f c key).content b))))
+      (ran_from (press f c key).content (laid (press f c key).content.text b) keys (ready_press width maximum default b c key h) (content_laid (press f c key).content b))))
       (λ some. subst (Ran width maximum default b (key ∷ keys)) (sym (ends f c b key keys (ending_of key) refl some))
       (record { ready = h; front = front; len = refl; behind = refl; read_lent = omega arith; read_all = λ e. absurd (some e); read_ending = λ _. (omega arith, refl); beeps_read = omega arith }))
       (ended? (ending_of key))
 
   -- .. of a call that is accepted
-  pub ran : (b : List ℕ) (state : State) (keys : List ℕ) → Ready width maximum (length b) state → Ran width maximum default b keys (type_keys f (content_of state b) b keys)
+  pub ran : (b : List ℕ) (state : State) (keys : List ℕ) → Ready width maximum (length default) (length b) state → Ran width maximum default b keys (type_keys f (content_of state b) b keys)
   ran b state keys h =
       let is = state_content state b (omega (arith, h.within, h.room)) in
       ran_from (content_of state b) b keys (rw is h) (ap (λ (s : State). content_of s b) is)

@@ -3,7 +3,7 @@
 use field::{KeysAnswer, Settings};
 use std::io;
 
-// A call's number, keys read and beeps, in decimal. Each synopsis has its own, as each is shown whole.
+// A call's number, keys read and beeps, in decimal.
 fn show(rt: &impl Print, answer: KeysAnswer) -> io::Result<()> {
     let KeysAnswer {
         status,

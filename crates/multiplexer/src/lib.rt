@@ -86,7 +86,7 @@ fn free_slot_for(m: Multiplexer, client: u8, pane: Rect) -> Result<Place, Status
 fn open_slot(m: Multiplexer, client: u8) -> Result<Place, Status>
     ensures { indexed result ≡ open_slot m client }
 {
-    if client == 0 {
+    if !has_client(m, client) {
         return Err(Status::NotOpen);
     }
     slot_of(m, client).ok_or(Status::NotOpen)

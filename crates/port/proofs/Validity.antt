@@ -90,7 +90,7 @@ four_zeros (a ∷ b ∷ c ∷ []) len all = absurd (omega arith)
 four_zeros (a ∷ b ∷ c ∷ d ∷ []) len all = λ i. all 0 0 (omega arith) i ∷ all 1 0 (omega arith) i ∷ all 2 0 (omega arith) i ∷ all 3 0 (omega arith) i ∷ []
 four_zeros (a ∷ b ∷ c ∷ d ∷ e ∷ xs) len all = absurd (omega arith)
 
-beq_false : (t : Bool) → beq t false ≡ not t
+pub beq_false : (t : Bool) → beq t false ≡ not t
 beq_false true = refl
 beq_false false = refl
 

@@ -4,10 +4,10 @@
 ghost use Rattle.std.specs.Prelude.{◌≡◌, ◌<◌};
 ghost use Rattle.port.specs.Valid as rules;
 
-use super::state::{zero_port, zero_view};
-use super::{Port, View};
+use super::state::zero_port;
+use super::{Flags, Port, View};
 use marks::within_lines;
-use rectangle::{Rect, legal, within};
+use rectangle::{Rect, is_zero_rect, legal, within};
 
 // How many parameters a code takes. Codes stay bytes, as the papers name them.
 pub fn parameters(code: u8) -> u8
@@ -38,11 +38,12 @@ fn valid_view(home: Rect, v: View) -> bool
     (legal(v.viewport) & within(v.viewport, home)) & cursor_inside(v)
 }
 
-// Every field 0 or false.
+// Every field 0 or false. By its parts and not by `==`, so that the rectangle's own test is the one that judges a port.
 fn is_zero_view(v: View) -> bool
     ensures { result ≡ rules.is_zero_view v }
 {
-    v == zero_view()
+    (is_zero_rect(v.viewport) & ((v.column == 0) & (v.line == 0)))
+        & ((v.flags == Flags::default()) & (!v.inverse & !v.mousetext))
 }
 
 fn valid_saved(home: Rect, has: bool, v: View) -> bool

@@ -20,7 +20,7 @@ use view::cursor::advance;
 use view::mode_of;
 
 // Prints a byte: it is stored at the cursor, whose line is marked, and the cursor advances.
-// The view and the marks are handed in apart, here and below, and are no `Drawn`: with that copied in, a long run took 13.8 instructions a code and not 12.9, and the one-byte call 444 and not 426.
+// The view and the marks are handed in apart, here and below, and are no `Drawn`: with that copied in, a long run took nearly an instruction more a code, and the one-byte call 18 more.
 pub fn print_byte(screen: &mut Screen, v: View, marks: u32, byte: u8) -> Drawn
     requires { AllOnScreen (print_byte v byte).edits }
     ensures { Drew (print_byte v byte) marks result.view result.marks screen.old screen.new }

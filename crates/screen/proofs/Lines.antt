@@ -1,6 +1,6 @@
 -- A walk over the lines of a rectangle: one line more is done, and all are; and a scroll of full lines at once. Assumes nothing.
 use Prim.Native.Nat.{ℕ, ◌+◌, ◌-◌, ◌*◌, ◌≤◌, ◌<◌, min}
-use mathlib.Core.Path.{◌≡◌, refl, sym, ap, ◌∙◌}
+use mathlib.Core.Path.{◌≡◌, refl, sym, ap, ◌∙◌, subst}
 use mathlib.Core.List.{List}
 use native.Mathlib.Omega.{arith}
 use borrow.Author.Rules.{rules}
@@ -9,13 +9,20 @@ use lib.Seq.{ext_get_or}
 use Rattle.rectangle.specs.declared.Rect.{Rect}
 use Rattle.rectangle.specs.declared.Motion.{Motion}
 use Rattle.rectangle.specs.declared.Motion.TheVariants.{Up, Down, Left, Right}
-use Rattle.rectangle.specs.Cells.{line_of, Inside}
+use Rattle.rectangle.specs.Cells.{cell_index, line_of, Inside}
 use Rattle.rectangle.specs.Rectangles.{OnScreen, width_of}
 use Rattle.rectangle.specs.Edit.{origin, edited_cell, edited}
 use Rattle.rectangle.proofs.Edits.{Vacated, cell_outside, cell_vacated, cell_moved}
 use Rattle.rectangle.proofs.Local.{length_edited, edited_at}
 use Rattle.screen.specs.Rewrite.{Rewritten, Relocated}
 use Rattle.screen.proofs.Rewrites.{ends, holds, wider, then_after, then_before}
+
+-- a line that moved from line i to line j, where these are k and l
+pub between : (r : Rect) (i j : ℕ) {k l : ℕ} {s t : List ℕ} → Relocated (cell_index r.left j) (cell_index r.left j + width_of r) (λ n. n + 80 * i - 80 * j) s t → i ≡ k → j ≡ l
+    → Relocated (cell_index r.left l) (cell_index r.left l + width_of r) (λ n. n + 80 * k - 80 * l) s t
+between r i j {k} {l} {s} {t} moved from to =
+    subst (λ (m : ℕ). Relocated (cell_index r.left l) (cell_index r.left l + width_of r) (λ n. n + 80 * m - 80 * l) s t) from
+    (subst (λ (m : ℕ). Relocated (cell_index r.left m) (cell_index r.left m + width_of r) (λ n. n + 80 * i - 80 * m) s t) to moved)
 
 -- what an edit of the screen s leaves in a cell
 abbrev cell_of : Rect → Motion → ℕ → List ℕ → ℕ → ℕ

@@ -8,7 +8,9 @@ use lib.ListN.{length, get_or, take, drop, length-drop, drop_of_length-le}
 use lib.Seq.{length-take-le, take_all, get_or-take, get_or-drop, drop_at}
 use borrow.Rule.Slice.PartMut.{mid_of, put_mid, same_len_mid, take_put}
 use Rattle.std.proofs.lemmas.Bool.{cases_lt}
+use Rattle.std.specs.List.{CopiedTo, SameBelow, SameFrom}
 use Rattle.screen.specs.Rewrite.{Relocated}
+use Rattle.screen.proofs.Rewrites.{ends}
 
 -- a place in the rest
 in_rest : (a : ℕ) (s : List ℕ) (i : ℕ) → a ≤ i → get_or s i 0 ≡ get_or (drop a s) (i - a) 0
@@ -48,3 +50,33 @@ rest_back a p q o o' s y fits moved origins =
     let none : y ++ drop k (drop a s) ≡ y = simp (drop_of_length-le (drop a s) all, append-nil) in
     let back : drop a (put_mid a k s y) ≡ y = drop_at (take a s) _ a (length-take-le a s fits) ∙ none in
     in_whole a p q o o' s (put_mid a k s y) (same_len_mid a k s y moved.len) (take_put a k s y fits) (rw (back, ← lent) moved) origins
+
+-- the rest, of k places, comes back with n of them, from p on, moved: they hold what those from q on held
+rest_moved : (a k p q n : ℕ) (o : ℕ → ℕ) (s y : List ℕ)
+    → CopiedTo (mid_of a k s) y q p n × SameBelow (mid_of a k s) y p × SameFrom (mid_of a k s) y (p + n)
+    → length y ≡ length (mid_of a k s)
+    → a ≤ length s → k ≡ length s - a
+    → ((i : ℕ) → p ≤ i → i < p + n → a + (q + (i - p)) ≡ o (a + i))
+    → Relocated (a + p) (a + (p + n)) o s (put_mid a k s y)
+rest_moved a k p q n o s y held len fits all origins = rw all (rest_back a p (p + n) (λ i. q + (i - p)) o s y fits (rw all at placed) origins)
+  where
+    placed : Relocated p (p + n) (λ i. q + (i - p)) (mid_of a k s) y
+    placed = record { len = len; run = λ i h x. held.0 i 0 h x; low = λ i h. held.1 i 0 h; high = λ i h. held.2 i 0 h }
+
+-- .. by gap places to its front: those up to e
+pub rest_pulled : (a k gap e : ℕ) (s y : List ℕ)
+    → CopiedTo (mid_of a k s) y gap 0 (e - gap) × SameBelow (mid_of a k s) y 0 × SameFrom (mid_of a k s) y (0 + (e - gap))
+    → length y ≡ length (mid_of a k s)
+    → a ≤ length s → k ≡ length s - a
+    → Relocated a (a + (e - gap)) (λ i. i + gap) s (put_mid a k s y)
+rest_pulled a k gap e s y held len fits all =
+    ends (rest_moved a k 0 gap (e - gap) (λ i. i + gap) s y held len fits all (λ i h x. omega arith)) (omega arith) (omega arith)
+
+-- .. or by gap places from its front: the first n
+pub rest_pushed : (a k gap n : ℕ) (s y : List ℕ)
+    → CopiedTo (mid_of a k s) y 0 gap (n - 0) × SameBelow (mid_of a k s) y gap × SameFrom (mid_of a k s) y (gap + (n - 0))
+    → length y ≡ length (mid_of a k s)
+    → a ≤ length s → k ≡ length s - a
+    → Relocated (a + gap) (a + gap + n) (λ i. i - gap) s (put_mid a k s y)
+rest_pushed a k gap n s y held len fits all =
+    ends (rest_moved a k gap 0 (n - 0) (λ i. i - gap) s y held len fits all (λ i h x. omega arith)) (omega arith) (omega arith)

@@ -154,14 +154,14 @@ pub fn clear(screen: &mut Screen, rect: Rect, fill: u8)
     }
 }
 
-// Scrolling up a rectangle as wide as the screen: its lines are one run of cells, and move at once.
+// Scrolling up a rectangle as wide as the screen: its lines are one run of cells, and move at once, in the rest of the screen from the first of them on.
 fn scroll_up_at_once(screen: &mut Screen, rect: Rect, fill: u8)
     requires { OnScreen rect × (width_of rect ≡ 80) }
     ensures { screen.new ≡ edited rect Motion.Up fill screen.old }
 {
     let first = cell_index(0, rect.top as usize);
     let last = cell_index(0, rect.bottom as usize);
-    screen[first..last + 80].copy_within(80.., 0);
+    screen[first..].copy_within(80..last + 80 - first, 0);
     fill_run(screen, last, last + 80, fill);
 }
 
@@ -198,7 +198,7 @@ fn scroll_down_at_once(screen: &mut Screen, rect: Rect, fill: u8)
 {
     let first = cell_index(0, rect.top as usize);
     let last = cell_index(0, rect.bottom as usize);
-    screen[first..last + 80].copy_within(..last - first, 80);
+    screen[first..].copy_within(..last - first, 80);
     fill_run(screen, first, first + 80, fill);
 }
 

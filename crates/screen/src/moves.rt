@@ -4,7 +4,7 @@ ghost use Rattle.rectangle.specs.Cells.{column_of, cell_index};
 ghost use Rattle.rectangle.specs.Rectangles.{OnScreen, width_of};
 ghost use Rattle.screen.specs.Rewrite.{Relocated, Copied};
 
-use super::{Screen, places_in};
+use super::{Screen, cell_index, places_in};
 use rectangle::Rect;
 
 // A chunk of cells, from place from on, is read and then stored from place to on.
@@ -36,7 +36,7 @@ pub fn copy_line(screen: &mut Screen, rect: Rect, source: usize, target: usize)
     ensures { Relocated (cell_index rect.left target) (cell_index rect.left target + width_of rect) (λ i. i + 80 * source - 80 * target) screen.old screen.new }
 {
     let (from, past) = places_in(rect, source);
-    let (to, _) = places_in(rect, target);
+    let to = cell_index(rect.left as usize, target);
     match past - from {
         count @ 16.. => copy_chunks::<16>(screen, from, to, count),
         count @ 8.. => copy_chunks::<8>(screen, from, to, count),

@@ -4,7 +4,7 @@ use multiplexer::Answer;
 use rectangle::Rect;
 use std::io;
 
-// A call's number and count, in decimal. Each synopsis has its own, as each is shown whole.
+// A call's number and count, in decimal.
 fn show(rt: &impl Print, answer: Answer) -> io::Result<()> {
     let number = reply::status_number(answer.status);
     let count = answer.count;

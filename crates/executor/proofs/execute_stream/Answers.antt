@@ -61,7 +61,7 @@ loop-b-preserved c = let at = c.loop-b in
       | then-active-eq0+else-b-ge32+else-touches_saved w ↦ rung_as_code at.active.waiting b at.bells _ _ w.if-active-eq0.true w.bells_of-bells.ensures w.bells-is
       | else-active-eq0 w ↦ rung_as_parameter at.active.waiting b at.bells _ w.if-active-eq0.false w.bells-is
     ] in
-    (after_control at.port at.active at.invariant.0 b _ _ _ (sym c.in-Some.ensures.cases.0) obeyed sum, at.invariant.1)
+    (after_control at.port at.active at.invariant.0 b _ _ _ (sym c.in-Some.ensures.cases.0) obeyed (search (sum, rules)), at.invariant.1)
 
 pub returns : goal.returns
 returns c = let at = c.loop-b in

@@ -17,13 +17,13 @@ loop-key-preserved c =
     elim c.match-press.branch [
       | in-Some w ↦
           let same : c.loop-key.answer.beeps + 0 ≡ c.loop-key.answer.beeps = omega arith in
-          reading_again _ _ _ _ _ _ _ _ _ _ c.loop-key.invariant c.loop-key-test.true (Some w.in-Some.next) c.press.new.buffer _ (sym c.ending_of-answer.ensures ∙ none) w.in-Some.ensures (w.answer-is ∙ rw (none, same))
-      | in-None w ↦ reading_again _ _ _ _ _ _ _ _ _ _ c.loop-key.invariant c.loop-key-test.true None c.press.new.buffer _ (sym c.ending_of-answer.ensures ∙ none) w.in-None.ensures (w.answer-is ∙ rw none)
+          reading_again _ _ _ _ _ _ _ _ _ c.loop-key.invariant c.loop-key-test.true (Some w.in-Some.next) c.press.new.buffer _ (sym c.ending_of-answer.ensures ∙ none) w.in-Some.ensures (w.answer-is ∙ rw (none, same))
+      | in-None w ↦ reading_again _ _ _ _ _ _ _ _ _ c.loop-key.invariant c.loop-key-test.true None c.press.new.buffer _ (sym c.ending_of-answer.ensures ∙ none) w.in-None.ensures (w.answer-is ∙ rw none)
     ]
 
 pub returns-then-is_some : goal.returns-then-is_some
 returns-then-is_some c =
-    reading_ends _ _ _ _ _ _ _ _ _ _ c.loop-key.invariant c.loop-key-test.true c.ending_of-answer.result c.ending_of-answer.ensures (ended (sym c.is_some.ensures ∙ c.if-is_some.true))
+    reading_ends _ _ _ _ _ _ _ _ _ c.loop-key.invariant c.loop-key-test.true c.ending_of-answer.result c.ending_of-answer.ensures (ended (sym c.is_some.ensures ∙ c.if-is_some.true))
 
 pub returns : goal.returns
 returns c = search reading_done

@@ -3,4 +3,4 @@ use Rattle.field.proofs.Reading.{Reading}
 use Rattle.field.proofs.type_keys.Given as goal
 
 abbrev pub invariant-loop-key : goal.invariant-loop-key
-invariant-loop-key l = Reading l.field.width l.field.maximum l.field.default.now l.initial.buffer l.fn.state l.keys l.field.default_fits l.buffer l.answer l.key-index
+invariant-loop-key l = Reading l.field.width l.field.maximum l.field.default.now l.initial.buffer l.fn.state l.keys l.buffer l.answer l.key-index

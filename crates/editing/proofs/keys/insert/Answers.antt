@@ -1,5 +1,6 @@
 -- `editing::keys::insert` meets its contract: a printing key is beeped or put in. Assumes nothing.
 use Prim.Native.Nat.{◌+◌, ◌<◌}
+use mathlib.Core.Path.{◌≡◌}
 use native.Mathlib.Omega.{arith}
 use Rattle.editing.proofs.Pressing.{insert_full, insert_at_width, insert_done, in_buffer}
 use Rattle.editing.proofs.keys.insert.Goals.{then-length-field-via-then-length-field, then-length-field-via-else-length-field+then-cursor-field}
@@ -13,4 +14,4 @@ returns-then-length-field c =
     ]
 
 pub returns : goal.returns
-returns c = search (insert_done, in_buffer)
+returns c = let below : c.args.state.length ≡ c.args.field.now.maximum → ⊥ = λ e. omega arith in search (insert_done, in_buffer, below)

@@ -1,10 +1,8 @@
 -- `slots::lookup::slot_of` meets its contract: the first slot that has the client is the definition's. Assumes nothing.
-use Rattle.std.proofs.Common.{◌≡◌, rules}
+use Rattle.std.proofs.Common.{rules}
 use Rattle.slots.specs.State.{slot_of}
 use Rattle.slots.proofs.lookup.slot_of.Goals as goal
 
 pub returns : goal.returns
 unfolding slot_of
-returns c =
-    let found : c.in_ok-index.index ≡ slot_of c.args.m c.args.client = search rules in
-    found
+returns c = search rules

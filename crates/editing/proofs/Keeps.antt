@@ -11,6 +11,7 @@ use lib.ListN.{length, take, drop}
 use lib.Seq.{length-take-le}
 use Rattle.std.proofs.lemmas.Bool.{or_parts}
 use Rattle.laws.proofs.Tests.{by_test}
+use Rattle.editing.specs.declared.State.{State}
 use Rattle.editing.specs.Keys.{Content, Settings, Effect, becomes, beep, start_content, inserted, removed, insert, move_left, move_right, delete_left, delete_under, delete_all, delete_to_end, restore_default, is_printing_key, press}
 use Rattle.editing.specs.Buffer.{laid, settings, state_of, Within, Ready}
 use Rattle.editing.proofs.Texts.{length_inserted, length_removed, length_laid, behind_laid}
@@ -129,19 +130,59 @@ keeps_press f c key fits h =
     (keeps_start w m f.default fits)
     h
 
+-- `Ready` without `small` and `default_fits`: what keys keep of a state and its buffer is so of any maximum that the default fits, and not only of one up to 254
+pub record InRoom (width maximum buffer_length : ℕ) (state : State) : Type 0 where
+  pub within : Within width maximum state
+  pub room : maximum ≤ buffer_length
+
+-- a key leaves it so; the buffer stays as long as it was, and no byte from the maximum on is changed
+module _ (width maximum : ℕ) (default b : List ℕ) (c : Content) (key : ℕ) (fits : length default ≤ maximum) (h : InRoom width maximum (length b) (state_of c)) where
+  abbrev outcome : Content
+  outcome = (press (settings width maximum default) c key).content
+
+  within_after : Within width maximum (state_of outcome)
+  within_after = keeps_press (settings width maximum default) c key fits h.within
+
+  pub length_kept : length (laid outcome.text b) ≡ length b
+  length_kept = length_laid outcome.text b (omega (arith, within_after.length_within, h.room))
+
+  pub behind_kept : drop maximum (laid outcome.text b) ≡ drop maximum b
+  behind_kept = behind_laid outcome.text b maximum within_after.length_within
+
+  pub in_room_press : InRoom width maximum (length (laid outcome.text b)) (state_of outcome)
+  in_room_press = rw length_kept (record { within = within_after; room = h.room })
+
+-- what `Ready` says of it
+pub ready_in_room : {width maximum default buffer : ℕ} {state : State} → Ready width maximum default buffer state → InRoom width maximum buffer state
+ready_in_room h = record { within = h.within; room = h.room }
+
 -- a field that is ready for a key is ready for the next one too; the buffer stays as long as it was, and no byte from the maximum on is changed
 module _ (width maximum : ℕ) (default b : List ℕ) (c : Content) (key : ℕ) (h : Ready width maximum (length default) (length b) (state_of c)) where
   abbrev pressed : Content
   pressed = (press (settings width maximum default) c key).content
 
-  kept : Within width maximum (state_of pressed)
-  kept = keeps_press (settings width maximum default) c key h.default_fits h.within
-
   pub length_pressed : length (laid pressed.text b) ≡ length b
-  length_pressed = length_laid pressed.text b (omega (arith, kept.length_within, h.room))
+  length_pressed = length_kept width maximum default b c key h.default_fits (ready_in_room h)
 
   pub behind_pressed : drop maximum (laid pressed.text b) ≡ drop maximum b
-  behind_pressed = behind_laid pressed.text b maximum kept.length_within
+  behind_pressed = behind_kept width maximum default b c key h.default_fits (ready_in_room h)
 
   pub ready_press : Ready width maximum (length default) (length (laid pressed.text b)) (state_of pressed)
-  ready_press = rw length_pressed (record { within = kept; small = h.small; room = h.room; default_fits = h.default_fits })
+  ready_press =
+      let next = in_room_press width maximum default b c key h.default_fits (ready_in_room h) in
+      record { within = next.within; small = h.small; room = next.room; default_fits = h.default_fits }
+
+-- each key keeps R, which is of a buffer's length and a state; and R gives `InRoom`, and that the default fits
+pub record KeptByKeys (width maximum : ℕ) (default : List ℕ) (R : ℕ → State → Type 0) : Type 0 where
+  pub in_room : {buffer : ℕ} {state : State} → R buffer state → InRoom width maximum buffer state
+  pub fits : {buffer : ℕ} {state : State} → R buffer state → length default ≤ maximum
+  pub again : (b : List ℕ) (c : Content) (key : ℕ) → R (length b) (state_of c)
+      → R (length (laid (press (settings width maximum default) c key).content.text b)) (state_of (press (settings width maximum default) c key).content)
+
+-- .. as both of them are
+module _ (width maximum : ℕ) (default : List ℕ) where
+  pub ready_kept : KeptByKeys width maximum default (Ready width maximum (length default))
+  ready_kept = record { in_room = ready_in_room; fits = λ h. h.default_fits; again = ready_press width maximum default }
+
+  pub in_room_kept : length default ≤ maximum → KeptByKeys width maximum default (InRoom width maximum)
+  in_room_kept fits = record { in_room = λ h. h; fits = λ h. fits; again = λ b c key. in_room_press width maximum default b c key fits }

@@ -179,7 +179,7 @@ pub record KeptByKeys (width maximum : ℕ) (default : List ℕ) (R : ℕ → St
   pub again : (b : List ℕ) (c : Content) (key : ℕ) → R (length b) (state_of c)
       → R (length (laid (press (settings width maximum default) c key).content.text b)) (state_of (press (settings width maximum default) c key).content)
 
--- .. as both of them are
+-- .. which is so of `Ready`, and where the default fits of `InRoom`
 module _ (width maximum : ℕ) (default : List ℕ) where
   pub ready_kept : KeptByKeys width maximum default (Ready width maximum (length default))
   ready_kept = record { in_room = ready_in_room; fits = λ h. h.default_fits; again = ready_press width maximum default }
